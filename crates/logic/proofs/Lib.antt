@@ -1,0 +1,11 @@
+pub mod Tests
+pub mod Falling
+pub mod Coincidence
+pub mod Typing
+pub mod Growth
+pub mod Entering
+pub mod Deciding
+pub mod Restoring
+pub mod Adding
+pub mod Keeping
+pub mod Examples

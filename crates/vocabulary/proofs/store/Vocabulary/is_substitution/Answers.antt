@@ -1,0 +1,13 @@
+use native.Mathlib.Omega.{arith}
+use Rattle.vocabulary.specs.View.{model}
+use Rattle.vocabulary.proofs.Views.{well-formed}
+use Rattle.vocabulary.proofs.Answering.{substituted-decided}
+use Rattle.vocabulary.proofs.store.Vocabulary.is_substitution.Needs as need
+
+pub returns : need.returns
+returns c =
+    let v = c .args .self .now in
+    substituted-decided (model v) (well-formed v) (c .args .q) (c .args .x) (c .args .e) (c .args .p) (c .formula-count .result) (c .len .result) (c .is-expression-expression .result)
+    (c .facts-at .result .ty) (c .variable-type .result) (c .replaces-substituted .result)
+    (c .formula-count .ensures .model) (omega arith) (c .is-expression-expression .ensures)
+    (c .facts-at .ensures .ty) (c .variable-type .ensures) (c .replaces-substituted .ensures)

@@ -1,0 +1,7 @@
+// The vocabulary of a derivation book.
+pub mod enter;
+pub mod facts;
+pub mod questions;
+pub mod store;
+pub mod theorems;
+pub mod types;
