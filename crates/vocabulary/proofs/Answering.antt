@@ -6,6 +6,10 @@ use Prim.Native.Nat.{ℕ, _<_}
 use lib.Dec.{T, eqb, ltb, eqb→eq, eqb-refl, ltb→lt, lt→ltb, T-not}
 use lib.ListN.{length}
 use Rattle.logic.specs.Formulas.{and, or, implies, iff, forall, exists, Shape, variable, pair, falsity, truth, negation, join, bind, equal, member, through, Vocabulary, node, free, free-layer, Substituted, substituted-layer, replaced, variable-type, Falling, WellFormed, Is-substitution}
+use Rattle.std.specs.declared.option.Option.{Option}
+use Rattle.std.specs.declared.option.Option.the-variants.{Some, None}
+use Rattle.logic.specs.Meanings.{Valued}
+use Rattle.logic.proofs.Typing.{values-typed}
 use Rattle.logic.specs.Deciding.{is-expression, type-of}
 use Rattle.logic.proofs.Coincidence.{free-is, substituted-is}
 use Rattle.logic.proofs.Deciding.{types-decided}
@@ -16,7 +20,7 @@ use Rattle.formulas.specs.declared.records.Record.{Record}
 use Rattle.formulas.specs.declared.kinds.Role.{Role}
 use Rattle.formulas.specs.declared.kinds.Role.the-variants.{Nothing, AVariable, Expression, Predicate, ASetName}
 use Rattle.formulas.specs.Kinds.{kind-number, first-role, second-role, is-formula}
-use Rattle.std.proofs.shelf.Tests.{true≢false, false≢true}
+use Rattle.std.proofs.shelf.Tests.{true≢false, false≢true, cond-true}
 use Rattle.formulas.specs.Records.{shape, record-of, entry}
 use Rattle.vocabulary.specs.Leaves.{part, free-from, substituted-under, Replaced}
 use Rattle.formulas.proofs.Shapes.{of-kind}
@@ -203,3 +207,11 @@ substituted-decided v wf q x e p k l b t u put ek el eb et eu ep = (forwards, ba
         (and-both (ltb x l) (b && (eqb t u && put)) (subst (λ n. T (ltb x n)) (sym el) (lt→ltb x (length (v .variables)) j))
         (and-both b (eqb t u && put) (subst T (sym eb) (d .0))
         (and-both (eqb t u) put (subst (λ n. T (eqb n u)) (sym same) (eqb-refl u)) (ep .1 s))))
+
+-- the type that is answered, and that the expression's value is one of its
+pub type-answered : (v : Vocabulary) → WellFormed v → (n k : ℕ) → is-expression v n ≡ true → k ≡ type-of v n →
+    (Some k ≡ cond (is-expression v n) (Some (type-of v n)) None) × ((t : ℕ) → Some k ≡ Some t → Valued v n t)
+type-answered v wf n k e h = (
+  ap Some h ∙ sym (cond-true (is-expression v n) (Some (type-of v n)) None e),
+  λ t i. let same : k ≡ t = cc in values-typed v wf n t (types-decided v wf n t .1 (is-so _ e, sym h ∙ same)),
+)

@@ -6,4 +6,3 @@ pub mod Reckoned
 pub mod Found
 pub mod Kept
 pub mod Calling
-pub mod Meant

@@ -9,9 +9,11 @@ use Rattle.std.specs.declared.option.Option.the-variants.{Some, None}
 use Rattle.std.specs.declared.result.Result.{Result}
 use Rattle.std.specs.declared.result.Result.the-variants.{Ok, Err}
 use Rattle.logic.specs.Formulas.{Shape, Sort, carrier, Vocabulary, through, weight, weight-layer, depth, depth-layer, WellFormed, node, sort, variable-type, element-type}
-use Rattle.logic.specs.Growing.{with-type, with-variable, with-set, with-formula, Grows}
+use Rattle.logic.specs.Growing.{with-type, with-variable, with-set, with-formula, Keeps}
 use Rattle.logic.specs.Formulas as logic
 use Rattle.logic.specs.Deciding.{found, product-number, is-expression, is-predicate, agreed}
+use Rattle.formulas.specs.declared.calls.Call.{Call}
+use Rattle.formulas.specs.declared.calls.Call.the-variants.{NewCarrier, NewProduct, NewVariable, NewSetName, EnterFormula}
 use Rattle.formulas.specs.declared.kinds.Kind.{Kind}
 use Rattle.formulas.specs.declared.kinds.Role.{Role}
 use Rattle.formulas.specs.declared.kinds.Role.the-variants.{Nothing, AVariable, Expression, Predicate, ASetName}
@@ -109,30 +111,25 @@ abbrev pub enter-formula : Vocabulary → ℕ → ℕ → ℕ → Outcome
 enter-formula v k a b = enter-kind v a b (kind-numbered k)
 
 -- any of the calls
-pub data Call : Type 0 where
-  a-carrier : Call
-  a-product : ℕ → ℕ → Call
-  a-variable a-set-name : ℕ → Call
-  a-formula : ℕ → ℕ → ℕ → Call
-
 abbrev pub called : Vocabulary → Call → Outcome
-called v a-carrier = new-carrier v
-called v (a-product s t) = product v s t
-called v (a-variable t) = new-variable v t
-called v (a-set-name t) = new-set-name v t
-called v (a-formula k a b) = enter-formula v k a b
+called v NewCarrier = new-carrier v
+called v (NewProduct s t) = product v s t
+called v (NewVariable t) = new-variable v t
+called v (NewSetName t) = new-set-name v t
+called v (EnterFormula k a b) = enter-formula v k a b
 
--- every call leaves a well-formed vocabulary well formed, and what was there stays
-abbrev pub Calls-keep : Type 0
-Calls-keep = (v : Vocabulary) → WellFormed v → (c : Call) → WellFormed (called v c .after) × Grows v (called v c .after)
-
--- what the number means that a granted call answered
+-- n means what was asked for
 abbrev pub Means : Vocabulary → Call → ℕ → Type 0
-Means v a-carrier n = (n < length (v .types)) × (sort v n ≡ carrier)
-Means v (a-product s t) n = sort v n ≡ logic.product s t
-Means v (a-variable t) n = (n < length (v .variables)) × (variable-type v n ≡ t)
-Means v (a-set-name t) n = (n < length (v .sets)) × (element-type v n ≡ t)
-Means v (a-formula k a b) n = (n < length (v .formulas)) × ((j : Kind) × (kind-numbered k ≡ Some j) × (node v n ≡ shape j a b))
+Means v NewCarrier n = (n < length (v .types)) × (sort v n ≡ carrier)
+Means v (NewProduct s t) n = (n < length (v .types)) × (sort v n ≡ logic.product s t)
+Means v (NewVariable t) n = (n < length (v .variables)) × (variable-type v n ≡ t)
+Means v (NewSetName t) n = (n < length (v .sets)) × (element-type v n ≡ t)
+Means v (EnterFormula k a b) n = (n < length (v .formulas)) × ((j : Kind) × (kind-numbered k ≡ Some j) × (node v n ≡ shape j a b))
 
-abbrev pub Answers-mean : Type 0
-Answers-mean = (v : Vocabulary) (c : Call) (n : ℕ) → called v c .answer ≡ Ok n → Means (called v c .after) c n
+-- What a call owes: the vocabulary stays well formed, what was there means what it did, the number answered means what was asked for,
+-- and a refusal changes nothing.
+pub record Entering-law (v : Vocabulary) (c : Call) (r : Result ℕ Refusal) (v′ : Vocabulary) : Type 0 where
+  pub well-formed : WellFormed v′
+  pub keeps : Keeps v v′
+  pub means : (n : ℕ) → r ≡ Ok n → Means v′ c n
+  pub unchanged : (e : Refusal) → r ≡ Err e → v′ ≡ v

@@ -1,5 +1,5 @@
 // Entering formulas.
-ghost use Prim.Native.Nat.{_≤_, _<_};
+ghost use Prim.Native.Nat.{ℕ, _≤_, _<_};
 ghost use mathlib.Core.Path.{_≡_};
 ghost use mathlib.Core.Logic.{_↔_};
 ghost use mathlib.Core.Bool.{cond};
@@ -8,6 +8,7 @@ ghost use lib.ListN.{length, getD};
 ghost use Rattle.std.specs.declared.option.Option.the-variants.{Some, None};
 ghost use Rattle.logic.specs.Formulas.{variable-type, element-type, through, weight, depth, Is-substitution};
 ghost use Rattle.logic.specs.Growing.{with-formula};
+ghost use Rattle.logic.specs.Meanings.{Valued, Means-with};
 ghost use Rattle.logic.specs.Deciding.{agreed, type-of, type-of-layer, is-expression};
 ghost use Rattle.vocabulary.specs.Calls.{fits, operands-fit, objection, formula-number, enter-formula, weight-with, depth-with};
 ghost use Rattle.vocabulary.specs.Leaves.{part, type-from, agree-from};
@@ -218,9 +219,10 @@ impl Vocabulary {
         self.facts_at(n).depth
     }
 
-    // The type of an expression.
+    // The type of an expression; its value is one of that type's.
     pub fn type_of(&self, n: u16) -> Option<u16>
-        ensures { λ r. ⌜ r ≡ cond (is-expression (model (now (self .entry))) n) (Some (type-of (model (now (self .entry))) n)) None ⌝ }
+        ensures answer { λ r. ⌜ r ≡ cond (is-expression (model (now (self .entry))) n) (Some (type-of (model (now (self .entry))) n)) None ⌝ }
+        ensures law { λ r. ⌜ ((t : ℕ) → r ≡ Some t → Valued (model (now (self .entry))) n t) ⌝ }
     {
         if self.is_expression(n) {
             Some(self.facts_at(n).ty)
@@ -230,8 +232,10 @@ impl Vocabulary {
     }
 
     // Whether q is p with e for x: no, unless p is known and e is an expression of the type of the known variable x.
+    // Where it is, q means what p means with x at the value of e.
     pub fn is_substitution(&self, q: u16, p: u16, x: u16, e: u16) -> bool
-        ensures { λ r. ⌜ T r ↔ Is-substitution (model (now (self .entry))) q x e p ⌝ }
+        ensures answer { λ r. ⌜ T r ↔ Is-substitution (model (now (self .entry))) q x e p ⌝ }
+        ensures law { λ r. ⌜ (T r → Means-with (model (now (self .entry))) q x e p) ⌝ }
     {
         let known = (p as usize) < self.formula_count();
         let variable = (x as usize) < self.variables.len();

@@ -1,4 +1,5 @@
 // The vocabulary of a derivation book.
+pub mod calls;
 pub mod enter;
 pub mod facts;
 pub mod questions;

@@ -1,4 +1,5 @@
 // Questions about formulas, which go down the operands.
+ghost use mathlib.Core.Bool.{false};
 ghost use mathlib.Core.Path.{_≡_};
 ghost use mathlib.Core.Logic.{_↔_};
 ghost use lib.Dec.{T};
@@ -6,6 +7,7 @@ ghost use lib.ListN.{length};
 ghost use Rattle.std.specs.Of.Vec.{vec-items, vec-len};
 ghost use Rattle.std.specs.declared.option.Option.the-variants.{Some, None};
 ghost use Rattle.logic.specs.Formulas.{node, free, Substituted};
+ghost use Rattle.logic.specs.Meanings.{Independent};
 ghost use Rattle.logic.specs.Deciding.{is-expression, is-predicate};
 ghost use Rattle.vocabulary.specs.Leaves.{free-from, substituted-under};
 ghost use Rattle.formulas.specs.Records.{record-at, record-of};
@@ -61,8 +63,10 @@ impl Vocabulary {
         (n as usize) < self.formula_count() && self.record(n).kind.is_expression()
     }
 
+    // Whether x is free in n. Where it is not, its value makes no difference to n.
     pub fn is_free(&self, x: u16, n: u16) -> bool
-        ensures { λ r. ⌜ r ≡ free (model (now (self .entry))) x n ⌝ }
+        ensures answer { λ r. ⌜ r ≡ free (model (now (self .entry))) x n ⌝ }
+        ensures law { λ r. ⌜ (r ≡ false → Independent (model (now (self .entry))) x n) ⌝ }
     {
         let r = self.record(n);
         let first = r.kind.first_role().is_formula() && self.is_free(x, r.a);

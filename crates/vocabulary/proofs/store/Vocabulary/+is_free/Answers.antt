@@ -1,8 +1,9 @@
 use mathlib.Core.Bool.{false}
-use mathlib.Core.Path.{_≡_, _∙_}
+use mathlib.Core.Path.{_≡_, sym, _∙_}
 use native.Mathlib.Omega.{arith}
 use Prim.Native.Nat.{_<_}
 use Rattle.logic.specs.Formulas.{free}
+use Rattle.logic.proofs.Coincidence.{bound-independent}
 use Rattle.formulas.specs.Kinds.{first-role, second-role}
 use Rattle.vocabulary.specs.View.{model}
 use Rattle.vocabulary.proofs.Views.{well-formed}
@@ -33,12 +34,14 @@ returns t c =
     let r = c .record-r .result in
     let p : c .if-is-formula .first ≡ firstly false f r =
     elim (c .if-is-formula .came) [
-      | then-is-formula w ↦ w .first-is ∙ (w .is-free-first .ensures ∙ part-formula false f (first-role (r .kind)) (r .a) (cc))
+      | then-is-formula w ↦ w .first-is ∙ (w .is-free-first .ensures .answer ∙ part-formula false f (first-role (r .kind)) (r .a) (cc))
       | else-is-formula w ↦ let h = part-other false f (first-role (r .kind)) (r .a) (cc) in cc
     ] in
     let q : c .if-is-formula-2 .second ≡ secondly false f r =
     elim (c .if-is-formula-2 .came) [
-      | then-is-formula-2 w ↦ w .second-is ∙ (w .is-free-second .ensures ∙ part-formula false f (second-role (r .kind)) (r .b) (cc))
+      | then-is-formula-2 w ↦ w .second-is ∙ (w .is-free-second .ensures .answer ∙ part-formula false f (second-role (r .kind)) (r .b) (cc))
       | else-is-formula-2 w ↦ let h = part-other false f (second-role (r .kind)) (r .b) (cc) in cc
     ] in
-    free-found (model v) (well-formed v .formulas-fall) (c .args .x) (c .args .n) r (c .if-is-formula .first) (c .if-is-formula-2 .second) (c .free-from .result) (c .record-r .ensures) p q (c .free-from .ensures)
+    let a = free-found (model v) (well-formed v .formulas-fall) (c .args .x) (c .args .n) r (c .if-is-formula .first) (c .if-is-formula-2 .second) (c .free-from .result)
+    (c .record-r .ensures) p q (c .free-from .ensures) in
+    record { answer = a; law = λ e. bound-independent (model v) (well-formed v) (c .args .x) (c .args .n) (sym a ∙ e) }

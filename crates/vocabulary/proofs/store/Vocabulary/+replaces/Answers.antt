@@ -48,5 +48,5 @@ returns t c =
       | then-is-formula-2 w ↦ replaced-formula f (second-role (r .kind)) (r .b) (s .b) (c .if-is-formula-2 .second) (w .replaces-second .result) (cc) (w .second-is) (w .replaces-second .ensures)
       | else-is-formula-2 w ↦ replaced-other f (second-role (r .kind)) (r .b) (s .b) (c .if-is-formula-2 .second) (cc) (w .second-is)
     ] in
-    substituted-found (model v) (c .args .x) (c .args .e) (well-formed v .formulas-fall) (c .args .p) (c .args .q) (present (free (model v) (c .args .x) (c .args .p)) (sym (c .if-not-is-free .ensures tt)))
+    substituted-found (model v) (c .args .x) (c .args .e) (well-formed v .formulas-fall) (c .args .p) (c .args .q) (present (free (model v) (c .args .x) (c .args .p)) (sym (c .if-not-is-free .ensures tt .answer)))
     r s (c .record-r .ensures) (c .record-s .ensures) (c .if-is-formula .first) (c .if-is-formula-2 .second) (c .substituted-under .result) p q (c .substituted-under .ensures)

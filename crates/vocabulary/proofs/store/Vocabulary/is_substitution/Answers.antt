@@ -1,4 +1,5 @@
 use native.Mathlib.Omega.{arith}
+use Rattle.logic.proofs.Coincidence.{substitution-means}
 use Rattle.vocabulary.specs.View.{model}
 use Rattle.vocabulary.proofs.Views.{well-formed}
 use Rattle.vocabulary.proofs.Answering.{substituted-decided}
@@ -7,7 +8,8 @@ use Rattle.vocabulary.proofs.store.Vocabulary.is_substitution.Needs as need
 pub returns : need.returns
 returns c =
     let v = c .args .self .now in
-    substituted-decided (model v) (well-formed v) (c .args .q) (c .args .x) (c .args .e) (c .args .p) (c .formula-count .result) (c .len .result) (c .is-expression-expression .result)
+    let d = substituted-decided (model v) (well-formed v) (c .args .q) (c .args .x) (c .args .e) (c .args .p) (c .formula-count .result) (c .len .result) (c .is-expression-expression .result)
     (c .facts-at .result .ty) (c .variable-type .result) (c .replaces-substituted .result)
     (c .formula-count .ensures .model) (omega arith) (c .is-expression-expression .ensures)
-    (c .facts-at .ensures .ty) (c .variable-type .ensures) (c .replaces-substituted .ensures)
+    (c .facts-at .ensures .ty) (c .variable-type .ensures) (c .replaces-substituted .ensures) in
+    record { answer = d; law = λ t. substitution-means (model v) (well-formed v) (c .args .q) (c .args .x) (c .args .e) (c .args .p) (d .0 t) }
