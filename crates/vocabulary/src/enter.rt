@@ -1,18 +1,14 @@
 // Entering formulas.
-ghost use Prim.Native.Nat.{ℕ, _≤_, _<_};
+ghost use Prim.Native.Nat.{_≤_, _<_};
 ghost use mathlib.Core.Path.{_≡_};
-ghost use mathlib.Core.Logic.{_↔_};
-ghost use mathlib.Core.Bool.{cond};
-ghost use lib.Dec.{T};
-ghost use lib.ListN.{length, getD};
-ghost use Rattle.std.specs.declared.option.Option.the-variants.{Some, None};
-ghost use Rattle.logic.specs.Formulas.{variable-type, element-type, through, weight, depth, Is-substitution};
+ghost use lib.ListN.{length};
+ghost use Rattle.std.specs.declared.option.Option.the-variants.{None};
+ghost use Rattle.logic.specs.Deciding.{agreed, type-of, type-of-layer};
+ghost use Rattle.logic.specs.Formulas.{through, weight, depth};
 ghost use Rattle.logic.specs.Growing.{with-formula};
-ghost use Rattle.logic.specs.Meanings.{Valued, Means-with};
-ghost use Rattle.logic.specs.Deciding.{agreed, type-of, type-of-layer, is-expression};
-ghost use Rattle.vocabulary.specs.Calls.{fits, operands-fit, objection, formula-number, enter-formula, weight-with, depth-with};
-ghost use Rattle.vocabulary.specs.Leaves.{part, type-from, agree-from};
 ghost use Rattle.formulas.specs.Records.{shape-of};
+ghost use Rattle.vocabulary.specs.Calls.{depth-with, enter-formula, fits, formula-number, objection, operands-fit, weight-with};
+ghost use Rattle.vocabulary.specs.Leaves.{agree-from, part, type-from};
 ghost use Rattle.vocabulary.specs.View.{model};
 use crate::facts::Facts;
 use crate::store::Vocabulary;
@@ -41,24 +37,6 @@ impl Vocabulary {
         self.fits(r.kind.first_role(), r.a) && self.fits(r.kind.second_role(), r.b)
     }
 
-    // The type, weight and depth of a formula; of no formula, what ⊥ would have.
-    fn facts_at(&self, n: u16) -> Facts
-        ensures ty { λ r. ⌜ r .ty ≡ type-of (model (now (self .entry))) n ⌝ }
-        ensures weight { λ r. ⌜ r .weight ≡ weight (model (now (self .entry))) n ⌝ }
-        ensures depth { λ r. ⌜ r .depth ≡ depth (model (now (self .entry))) n ⌝ }
-        ensures light { λ r. ⌜ r .weight ≤ 4095 ⌝ }
-        ensures shallow { λ r. ⌜ r .depth ≤ 64 ⌝ }
-    {
-        match self.facts.get(n as usize) {
-            Some(f) => *f,
-            None => Facts {
-                ty: 0,
-                weight: 1,
-                depth: 1,
-            },
-        }
-    }
-
     // What an operand adds to the weight and to the depth, and its type.
     fn facts_of_operand(&self, role: Role, n: u16) -> Facts
         ensures ty { λ r. ⌜ r .ty ≡ part 0 (type-of (model (now (self .entry)))) role n ⌝ }
@@ -75,24 +53,6 @@ impl Vocabulary {
             };
         }
         self.facts_at(n)
-    }
-
-    fn variable_type(&self, x: u16) -> u16
-        ensures { λ r. ⌜ r ≡ variable-type (model (now (self .entry))) x ⌝ }
-    {
-        match self.variables.get(x as usize) {
-            Some(t) => *t,
-            None => 0,
-        }
-    }
-
-    fn set_type(&self, s: u16) -> u16
-        ensures { λ r. ⌜ r ≡ element-type (model (now (self .entry))) s ⌝ }
-    {
-        match self.set_names.get(s as usize) {
-            Some(t) => *t,
-            None => 0,
-        }
     }
 
     // The type of a formula, from the types of its operands.
@@ -205,43 +165,5 @@ impl Vocabulary {
             return Err(Refusal::FormulasFull);
         }
         Ok(self.append(r))
-    }
-
-    pub fn weight_of(&self, n: u16) -> u16
-        ensures { λ r. ⌜ r ≡ weight (model (now (self .entry))) n ⌝ }
-    {
-        self.facts_at(n).weight
-    }
-
-    pub fn depth_of(&self, n: u16) -> u16
-        ensures { λ r. ⌜ r ≡ depth (model (now (self .entry))) n ⌝ }
-    {
-        self.facts_at(n).depth
-    }
-
-    // The type of an expression; its value is one of that type's.
-    pub fn type_of(&self, n: u16) -> Option<u16>
-        ensures answer { λ r. ⌜ r ≡ cond (is-expression (model (now (self .entry))) n) (Some (type-of (model (now (self .entry))) n)) None ⌝ }
-        ensures law { λ r. ⌜ ((t : ℕ) → r ≡ Some t → Valued (model (now (self .entry))) n t) ⌝ }
-    {
-        if self.is_expression(n) {
-            Some(self.facts_at(n).ty)
-        } else {
-            None
-        }
-    }
-
-    // Whether q is p with e for x: no, unless p is known and e is an expression of the type of the known variable x.
-    // Where it is, q means what p means with x at the value of e.
-    pub fn is_substitution(&self, q: u16, p: u16, x: u16, e: u16) -> bool
-        ensures answer { λ r. ⌜ T r ↔ Is-substitution (model (now (self .entry))) q x e p ⌝ }
-        ensures law { λ r. ⌜ (T r → Means-with (model (now (self .entry))) q x e p) ⌝ }
-    {
-        let known = (p as usize) < self.formula_count();
-        let variable = (x as usize) < self.variables.len();
-        let expression = self.is_expression(e);
-        let agree = self.facts_at(e).ty == self.variable_type(x);
-        let substituted = self.replaces(x, e, p, q);
-        known & (variable & (expression & (agree & substituted)))
     }
 }

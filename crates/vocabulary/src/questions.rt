@@ -1,68 +1,16 @@
 // Questions about formulas, which go down the operands.
 ghost use mathlib.Core.Bool.{false};
-ghost use mathlib.Core.Path.{_≡_};
 ghost use mathlib.Core.Logic.{_↔_};
+ghost use mathlib.Core.Path.{_≡_};
 ghost use lib.Dec.{T};
-ghost use lib.ListN.{length};
-ghost use Rattle.std.specs.Of.Vec.{vec-items, vec-len};
-ghost use Rattle.std.specs.declared.option.Option.the-variants.{Some, None};
-ghost use Rattle.logic.specs.Formulas.{node, free, Substituted};
-ghost use Rattle.logic.specs.Meanings.{Independent};
-ghost use Rattle.logic.specs.Deciding.{is-expression, is-predicate};
+ghost use Rattle.logic.specs.Formulas.{free, Substituted, Is-substitution};
+ghost use Rattle.logic.specs.Meanings.{Independent, Means-with};
 ghost use Rattle.vocabulary.specs.Leaves.{free-from, substituted-under};
-ghost use Rattle.formulas.specs.Records.{record-at, record-of};
 ghost use Rattle.vocabulary.specs.View.{model};
 use crate::store::Vocabulary;
-use formulas::kinds::Kind;
 use formulas::records::Record;
 
 impl Vocabulary {
-    pub(crate) fn formula_count(&self) -> usize
-        ensures model { λ r. ⌜ r ≡ length (model (now (self .entry)) .formulas) ⌝ }
-        ensures memory { λ r. ⌜ r ≡ vec-len (now (self .entry) .records) ⌝ }
-    {
-        self.records.len()
-    }
-
-    fn entry(&self, n: u16) -> Record
-        ensures { λ r. ⌜ r ≡ record-at (vec-items (now (self .entry) .records)) n ⌝ }
-    {
-        match self.records.get(n as usize) {
-            Some(r) => *r,
-            None => Record {
-                kind: Kind::False,
-                a: 0,
-                b: 0,
-            },
-        }
-    }
-
-    // The record of a formula; that of ⊥ where no formula has the number.
-    pub fn record(&self, n: u16) -> Record
-        ensures { λ r. ⌜ r ≡ record-of (node (model (now (self .entry))) n) ⌝ }
-    {
-        self.entry(n)
-    }
-
-    // Whether r is the record of formula n.
-    pub fn has_record(&self, n: u16, r: Record) -> bool
-        ensures { λ answer. ⌜ T answer ↔ (record-of (node (model (now (self .entry))) n) ≡ r) ⌝ }
-    {
-        r.same(self.record(n))
-    }
-
-    pub fn is_predicate(&self, n: u16) -> bool
-        ensures { λ r. ⌜ r ≡ is-predicate (model (now (self .entry))) n ⌝ }
-    {
-        (n as usize) < self.formula_count() && !self.record(n).kind.is_expression()
-    }
-
-    pub fn is_expression(&self, n: u16) -> bool
-        ensures { λ r. ⌜ r ≡ is-expression (model (now (self .entry))) n ⌝ }
-    {
-        (n as usize) < self.formula_count() && self.record(n).kind.is_expression()
-    }
-
     // Whether x is free in n. Where it is not, its value makes no difference to n.
     pub fn is_free(&self, x: u16, n: u16) -> bool
         ensures answer { λ r. ⌜ r ≡ free (model (now (self .entry))) x n ⌝ }
@@ -96,7 +44,7 @@ impl Vocabulary {
     }
 
     // Whether q is p with e for x, the types aside.
-    pub(crate) fn replaces(&self, x: u16, e: u16, p: u16, q: u16) -> bool
+    fn replaces(&self, x: u16, e: u16, p: u16, q: u16) -> bool
         ensures { λ answer. ⌜ T answer ↔ Substituted (model (now (self .entry))) x e p q ⌝ }
     {
         if !self.is_free(x, p) {
@@ -115,6 +63,20 @@ impl Vocabulary {
             s.b == r.b
         };
         self.substituted_under(e, r, s, q, first, second)
+    }
+
+    // Whether q is p with e for x: no, unless p is known and e is an expression of the type of the known variable x.
+    // Where it is, q means what p means with x at the value of e.
+    pub fn is_substitution(&self, q: u16, p: u16, x: u16, e: u16) -> bool
+        ensures answer { λ r. ⌜ T r ↔ Is-substitution (model (now (self .entry))) q x e p ⌝ }
+        ensures law { λ r. ⌜ (T r → Means-with (model (now (self .entry))) q x e p) ⌝ }
+    {
+        let known = (p as usize) < self.formula_count();
+        let variable = (x as usize) < self.variables.len();
+        let expression = self.is_expression(e);
+        let agree = self.facts_at(e).ty == self.variable_type(x);
+        let substituted = self.replaces(x, e, p, q);
+        known & (variable & (expression & (agree & substituted)))
     }
 }
 

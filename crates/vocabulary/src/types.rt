@@ -1,50 +1,20 @@
-// The calls that make types, variables and set names.
-ghost use mathlib.Core.Path.{_≡_};
+// The calls that enter types, variables and set names.
 ghost use Prim.Native.Nat.{ℕ, _<_};
+ghost use mathlib.Core.Path.{_≡_};
 ghost use lib.ListN.{length};
 ghost use Rattle.std.specs.Of.Vec.{vec-len};
-ghost use Rattle.std.specs.Vec.{made};
-ghost use Rattle.logic.specs.Formulas.{In, parts, sort, WellFormed, Limited};
-ghost use Rattle.logic.specs.Growing.{empty-vocabulary};
 ghost use Rattle.logic.specs.Deciding.{is-product, product-number};
-ghost use Rattle.formulas.specs.Records.{sort-of};
-ghost use Rattle.vocabulary.specs.Calls.{new-carrier, product, new-variable, new-set-name, add-type, knows-type};
-ghost use Rattle.vocabulary.specs.View.{model};
 ghost use Rattle.logic.specs.Formulas as logic;
+ghost use Rattle.logic.specs.Formulas.{In, parts, sort};
+ghost use Rattle.formulas.specs.Records.{sort-of};
+ghost use Rattle.vocabulary.specs.Calls.{add-type, knows-type, new-carrier, new-set-name, new-variable, product};
+ghost use Rattle.vocabulary.specs.View.{model};
 use crate::store::Vocabulary;
 use formulas::records::TypeDef;
 use formulas::refusals::Refusal;
-use std::alloc::AllocError;
-use std::alloc::Global;
 
 impl Vocabulary {
-    // An empty vocabulary, with all the memory that it will ever need.
-    pub fn new(heap: Global) -> Result<Vocabulary, AllocError>
-        ensures { λ r. ⌜ made r (λ v. model v ≡ empty-vocabulary) ⌝ }
-    {
-        let types = Vec::with_capacity(heap, 64)?;
-        let variables = Vec::with_capacity(heap, 256)?;
-        let set_names = Vec::with_capacity(heap, 64)?;
-        let records = Vec::with_capacity(heap, 2048)?;
-        let facts = Vec::with_capacity(heap, 2048)?;
-        Ok(Vocabulary {
-            types,
-            variables,
-            set_names,
-            records,
-            facts,
-        })
-    }
-
-    // Every vocabulary is well formed and within its limits.
-    pub fn is_well_formed(&self) -> bool
-        ensures formed { λ _. ⌜ WellFormed (model (now (self .entry))) ⌝ }
-        ensures limited { λ _. ⌜ Limited (model (now (self .entry))) ⌝ }
-    {
-        true
-    }
-
-    fn type_count(&self) -> usize
+    pub(crate) fn type_count(&self) -> usize
         ensures model { λ r. ⌜ r ≡ length (model (now (self .entry)) .types) ⌝ }
         ensures memory { λ r. ⌜ r ≡ vec-len (now (self .entry) .types) ⌝ }
     {
@@ -78,6 +48,30 @@ impl Vocabulary {
         self.add_type(TypeDef::Carrier)
     }
 
+    pub(crate) fn product_number(&self, s: u16, t: u16) -> Option<u16>
+        ensures { λ r. ⌜ r ≡ product-number (model (now (self .entry))) s t ⌝ }
+    {
+        for (i, d) in self.types.iter().enumerate() {
+            if is_product(s, t, *d) {
+                return Some(i as u16);
+            }
+        }
+        None
+    }
+
+    pub fn product(&mut self, s: u16, t: u16) -> Result<u16, Refusal>
+        ensures answer { λ r. ⌜ r ≡ product (model (now (self .entry))) s t .answer ⌝ }
+        ensures after { λ r. ⌜ model (now (self .exit)) ≡ product (model (now (self .entry))) s t .after ⌝ }
+    {
+        if !self.knows_type(s) || !self.knows_type(t) {
+            return Err(Refusal::UnknownType);
+        }
+        match self.product_number(s, t) {
+            Some(n) => Ok(n),
+            None => self.add_type(TypeDef::Product(s, t)),
+        }
+    }
+
     pub fn new_variable(&mut self, t: u16) -> Result<u16, Refusal>
         ensures answer { λ r. ⌜ r ≡ new-variable (model (now (self .entry))) t .answer ⌝ }
         ensures after { λ r. ⌜ model (now (self .exit)) ≡ new-variable (model (now (self .entry))) t .after ⌝ }
@@ -106,30 +100,6 @@ impl Vocabulary {
         }
         self.set_names.push_reserved(t);
         Ok(n as u16)
-    }
-
-    pub(crate) fn product_number(&self, s: u16, t: u16) -> Option<u16>
-        ensures { λ r. ⌜ r ≡ product-number (model (now (self .entry))) s t ⌝ }
-    {
-        for (i, d) in self.types.iter().enumerate() {
-            if is_product(s, t, *d) {
-                return Some(i as u16);
-            }
-        }
-        None
-    }
-
-    pub fn product(&mut self, s: u16, t: u16) -> Result<u16, Refusal>
-        ensures answer { λ r. ⌜ r ≡ product (model (now (self .entry))) s t .answer ⌝ }
-        ensures after { λ r. ⌜ model (now (self .exit)) ≡ product (model (now (self .entry))) s t .after ⌝ }
-    {
-        if !self.knows_type(s) || !self.knows_type(t) {
-            return Err(Refusal::UnknownType);
-        }
-        match self.product_number(s, t) {
-            Some(n) => Ok(n),
-            None => self.add_type(TypeDef::Product(s, t)),
-        }
     }
 }
 

@@ -1,0 +1,37 @@
+// A new vocabulary, and what holds of every one.
+ghost use mathlib.Core.Path.{_≡_};
+ghost use Rattle.std.specs.Vec.{made};
+ghost use Rattle.logic.specs.Formulas.{WellFormed, Limited};
+ghost use Rattle.logic.specs.Growing.{empty-vocabulary};
+ghost use Rattle.vocabulary.specs.View.{model};
+use crate::store::Vocabulary;
+use std::alloc::AllocError;
+use std::alloc::Global;
+
+impl Vocabulary {
+    // An empty vocabulary, with all the memory that it will ever need.
+    pub fn new(heap: Global) -> Result<Vocabulary, AllocError>
+        ensures { λ r. ⌜ made r (λ v. model v ≡ empty-vocabulary) ⌝ }
+    {
+        let types = Vec::with_capacity(heap, 64)?;
+        let variables = Vec::with_capacity(heap, 256)?;
+        let set_names = Vec::with_capacity(heap, 64)?;
+        let records = Vec::with_capacity(heap, 2048)?;
+        let facts = Vec::with_capacity(heap, 2048)?;
+        Ok(Vocabulary {
+            types,
+            variables,
+            set_names,
+            records,
+            facts,
+        })
+    }
+
+    // Every vocabulary is well formed and within its limits.
+    pub fn is_well_formed(&self) -> bool
+        ensures formed { λ _. ⌜ WellFormed (model (now (self .entry))) ⌝ }
+        ensures limited { λ _. ⌜ Limited (model (now (self .entry))) ⌝ }
+    {
+        true
+    }
+}
