@@ -128,18 +128,12 @@ expression-kind (bind exists x b) = refl
 expression-kind (equal a b) = refl
 expression-kind (member a s) = refl
 
--- a known formula is an expression or a predicate by its record's kind, and an unknown number is neither
-pub sorts-there : (l : Bool) (s : Shape ℕ) (b : Bool) → l ≡ true → b ≡ is-expression-kind (record-of s .kind) → (b ≡ (l && not (predicate-shape s))) × (not b ≡ (l && predicate-shape s))
-sorts-there true s b e f = (f ∙ expression-kind s, ap not (f ∙ expression-kind s) ∙ twice (predicate-shape s))
+pub predicate-kind : (s : Shape ℕ) → not (is-expression-kind (record-of s .kind)) ≡ predicate-shape s
+predicate-kind s = ap not (expression-kind s) ∙ twice (predicate-shape s)
   where
-    twice : (c : Bool) → not (not c) ≡ c
+    twice : (b : Bool) → not (not b) ≡ b
     twice true = refl
     twice false = refl
-sorts-there false s b e f = absurd (false≢true e)
-
-pub none-there : (l c : Bool) → l ≡ false → l ≡ (l && c)
-none-there true c e = absurd (true≢false e)
-none-there false c e = refl
 
 -- shapes with one record are one shape
 pub one-shape : (s t : Shape ℕ) → record-of s ≡ record-of t → s ≡ t

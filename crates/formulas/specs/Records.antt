@@ -1,6 +1,7 @@
 -- A formula as a record of a kind and two operands, and as a shape.
 use mathlib.Core.Bool.{Bool, true, _&&_}
 use mathlib.Core.List.{List}
+use mathlib.Core.Path.{_≡_}
 use Prim.Native.Nat.{ℕ}
 use lib.Dec.{eqb}
 use lib.ListN.{getD}
@@ -83,3 +84,7 @@ record-at rs n = getD rs n no-record
 abbrev pub sort-of : TypeDef → Sort ℕ
 sort-of Carrier = carrier
 sort-of (Product s t) = product s t
+
+-- a shape is that of its record, and a record whose unused operands are 0 is that of its shape
+abbrev pub Records-are-shapes : Type 0
+Records-are-shapes = ((s : Shape ℕ) → shape-of (record-of s) ≡ s) × ((r : Record) → plain r ≡ true → record-of (shape-of r) ≡ r)

@@ -4,3 +4,4 @@ pub mod calls;
 pub mod kinds;
 pub mod records;
 pub mod refusals;
+pub mod theorems;

@@ -40,12 +40,15 @@ type-of-layer v (member a s) = 0
 unfoldable pub type-of : Vocabulary → ℕ → ℕ
 type-of v n = ask v 0 (λ _. type-of-layer v) n
 
--- n is the number of a predicate, of an expression
+-- n is the number of a formula, of a predicate, of an expression
+abbrev pub knows-formula : Vocabulary → ℕ → Bool
+knows-formula v n = ltb n (length (v .formulas))
+
 abbrev pub is-predicate : Vocabulary → ℕ → Bool
-is-predicate v n = ltb n (length (v .formulas)) && predicate-shape (node v n)
+is-predicate v n = knows-formula v n && predicate-shape (node v n)
 
 abbrev pub is-expression : Vocabulary → ℕ → Bool
-is-expression v n = ltb n (length (v .formulas)) && not (predicate-shape (node v n))
+is-expression v n = knows-formula v n && not (predicate-shape (node v n))
 
 -- each operand is known and of the right sort
 abbrev pub sorted : Vocabulary → Shape ℕ → Bool

@@ -10,7 +10,7 @@ use Rattle.std.specs.declared.option.Option.{Option}
 use Rattle.std.specs.declared.option.Option.the-variants.{Some, None}
 use Rattle.logic.specs.Meanings.{Valued}
 use Rattle.logic.proofs.Typing.{values-typed}
-use Rattle.logic.specs.Deciding.{is-expression, type-of}
+use Rattle.logic.specs.Deciding.{is-expression, knows-formula, type-of}
 use Rattle.logic.proofs.Coincidence.{free-is, substituted-is}
 use Rattle.logic.proofs.Deciding.{types-decided}
 use Rattle.logic.proofs.Tests.{and-both, and-left, and-right, is-so}
@@ -182,30 +182,29 @@ module _ (v : Vocabulary) (x e : ℕ) where
         )
 
 -- the five tests that a substitution is
-pub substituted-decided : (v : Vocabulary) → WellFormed v → (q x e p k l : ℕ) (b : Bool) (t u : ℕ) (put : Bool) → k ≡ length (v .formulas) → l ≡ length (v .variables)
-    → b ≡ is-expression v e → t ≡ type-of v e → u ≡ variable-type v x → (T put ↔ Substituted v x e p q)
-    → T (ltb p k && (ltb x l && (b && (eqb t u && put)))) ↔ Is-substitution v q x e p
-substituted-decided v wf q x e p k l b t u put ek el eb et eu ep = (forwards, backwards)
+pub substituted-decided : (v : Vocabulary) → WellFormed v → (q x e p l t u : ℕ) (known expression put : Bool) → known ≡ knows-formula v p → l ≡ length (v .variables)
+    → expression ≡ is-expression v e → t ≡ type-of v e → u ≡ variable-type v x → (T put ↔ Substituted v x e p q)
+    → T (known && (ltb x l && (expression && (eqb t u && put)))) ↔ Is-substitution v q x e p
+substituted-decided v wf q x e p l t u known expression put ek el ee et eu ep = (forwards, backwards)
   where
-    forwards : T (ltb p k && (ltb x l && (b && (eqb t u && put)))) → Is-substitution v q x e p
+    forwards : T (known && (ltb x l && (expression && (eqb t u && put)))) → Is-substitution v q x e p
     forwards h =
-        let h1 = and-right (ltb p k) (ltb x l && (b && (eqb t u && put))) h in
-        let h2 = and-right (ltb x l) (b && (eqb t u && put)) h1 in
-        let h3 = and-right b (eqb t u && put) h2 in
-        let same : type-of v e ≡ variable-type v x = sym et ∙ (eqb→eq t u (and-left (eqb t u) put h3) ∙ eu) in (
-          subst (λ n. p < n) ek (ltb→lt p k (and-left (ltb p k) (ltb x l && (b && (eqb t u && put))) h)),
-          subst (λ n. x < n) el (ltb→lt x l (and-left (ltb x l) (b && (eqb t u && put)) h1)),
-          types-decided v wf e (variable-type v x) .1 (subst T eb (and-left b (eqb t u && put) h2), same),
-          ep .0 (and-right (eqb t u) put h3),
+        let h2 = and-right known (ltb x l && (expression && (eqb t u && put))) h in
+        let h3 = and-right (ltb x l) (expression && (eqb t u && put)) h2 in
+        let h4 = and-right expression (eqb t u && put) h3 in (
+          ltb→lt p _ (subst T ek (and-left known (ltb x l && (expression && (eqb t u && put))) h)),
+          subst (λ n. x < n) el (ltb→lt x l (and-left (ltb x l) (expression && (eqb t u && put)) h2)),
+          types-decided v wf e (variable-type v x) .1 (subst T ee (and-left expression (eqb t u && put) h3), sym et ∙ (eqb→eq t u (and-left (eqb t u) put h4) ∙ eu)),
+          ep .0 (and-right (eqb t u) put h4),
         )
 
-    backwards : Is-substitution v q x e p → T (ltb p k && (ltb x l && (b && (eqb t u && put))))
+    backwards : Is-substitution v q x e p → T (known && (ltb x l && (expression && (eqb t u && put))))
     backwards (i, j, h, s) =
         let d = types-decided v wf e (variable-type v x) .0 h in
         let same : t ≡ u = et ∙ (d .1 ∙ sym eu) in
-        and-both (ltb p k) (ltb x l && (b && (eqb t u && put))) (subst (λ n. T (ltb p n)) (sym ek) (lt→ltb p (length (v .formulas)) i))
-        (and-both (ltb x l) (b && (eqb t u && put)) (subst (λ n. T (ltb x n)) (sym el) (lt→ltb x (length (v .variables)) j))
-        (and-both b (eqb t u && put) (subst T (sym eb) (d .0))
+        and-both known (ltb x l && (expression && (eqb t u && put))) (subst T (sym ek) (lt→ltb p _ i))
+        (and-both (ltb x l) (expression && (eqb t u && put)) (subst (λ n. T (ltb x n)) (sym el) (lt→ltb x _ j))
+        (and-both expression (eqb t u && put) (subst T (sym ee) (d .0))
         (and-both (eqb t u) put (subst (λ n. T (eqb n u)) (sym same) (eqb-refl u)) (ep .1 s))))
 
 -- the type that is answered, and that the expression's value is one of its

@@ -4,6 +4,10 @@ ghost use Rattle.std.specs.Vec.{made};
 ghost use Rattle.logic.specs.Formulas.{WellFormed, Limited};
 ghost use Rattle.logic.specs.Growing.{empty-vocabulary};
 ghost use Rattle.vocabulary.specs.View.{model};
+use crate::limits::MAX_FORMULAS;
+use crate::limits::MAX_SET_NAMES;
+use crate::limits::MAX_TYPES;
+use crate::limits::MAX_VARIABLES;
 use crate::store::Vocabulary;
 use std::alloc::AllocError;
 use std::alloc::Global;
@@ -13,11 +17,11 @@ impl Vocabulary {
     pub fn new(heap: Global) -> Result<Vocabulary, AllocError>
         ensures { λ r. ⌜ made r (λ v. model v ≡ empty-vocabulary) ⌝ }
     {
-        let types = Vec::with_capacity(heap, 64)?;
-        let variables = Vec::with_capacity(heap, 256)?;
-        let set_names = Vec::with_capacity(heap, 64)?;
-        let records = Vec::with_capacity(heap, 2048)?;
-        let facts = Vec::with_capacity(heap, 2048)?;
+        let types = Vec::with_capacity(heap, MAX_TYPES)?;
+        let variables = Vec::with_capacity(heap, MAX_VARIABLES)?;
+        let set_names = Vec::with_capacity(heap, MAX_SET_NAMES)?;
+        let records = Vec::with_capacity(heap, MAX_FORMULAS)?;
+        let facts = Vec::with_capacity(heap, MAX_FORMULAS)?;
         Ok(Vocabulary {
             types,
             variables,

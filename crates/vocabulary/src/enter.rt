@@ -11,6 +11,9 @@ ghost use Rattle.vocabulary.specs.Calls.{depth-with, enter-formula, fits, form
 ghost use Rattle.vocabulary.specs.Leaves.{agree-from, part, type-from};
 ghost use Rattle.vocabulary.specs.View.{model};
 use crate::facts::Facts;
+use crate::limits::MAX_DEPTH;
+use crate::limits::MAX_FORMULAS;
+use crate::limits::MAX_WEIGHT;
 use crate::store::Vocabulary;
 use formulas::kinds::Kind;
 use formulas::kinds::Role;
@@ -116,7 +119,7 @@ impl Vocabulary {
             return Some(Refusal::TypesDisagree);
         }
         let f = self.facts_of(r);
-        if f.weight > 4095 || f.depth > 64 {
+        if f.weight > MAX_WEIGHT || f.depth > MAX_DEPTH {
             return Some(Refusal::TooLarge);
         }
         None
@@ -161,7 +164,7 @@ impl Vocabulary {
         if let Some(n) = self.formula_number(r) {
             return Ok(n);
         }
-        if self.formula_count() >= 2048 {
+        if self.formula_count() >= MAX_FORMULAS {
             return Err(Refusal::FormulasFull);
         }
         Ok(self.append(r))

@@ -3,6 +3,7 @@ pub mod begin;
 pub mod calls;
 pub mod enter;
 pub mod facts;
+pub mod limits;
 pub mod questions;
 pub mod reading;
 pub mod store;

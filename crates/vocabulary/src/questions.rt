@@ -71,7 +71,7 @@ impl Vocabulary {
         ensures answer { λ r. ⌜ T r ↔ Is-substitution (model (now (self .entry))) q x e p ⌝ }
         ensures law { λ r. ⌜ (T r → Means-with (model (now (self .entry))) q x e p) ⌝ }
     {
-        let known = (p as usize) < self.formula_count();
+        let known = self.knows_formula(p);
         let variable = (x as usize) < self.variables.len();
         let expression = self.is_expression(e);
         let agree = self.facts_at(e).ty == self.variable_type(x);

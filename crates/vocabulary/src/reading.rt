@@ -7,7 +7,7 @@ ghost use lib.Dec.{T};
 ghost use lib.ListN.{length};
 ghost use Rattle.std.specs.Of.Vec.{vec-items, vec-len};
 ghost use Rattle.std.specs.declared.option.Option.the-variants.{Some, None};
-ghost use Rattle.logic.specs.Deciding.{is-expression, is-predicate, type-of};
+ghost use Rattle.logic.specs.Deciding.{is-expression, is-predicate, knows-formula, type-of};
 ghost use Rattle.logic.specs.Formulas.{node, variable-type, element-type, weight, depth};
 ghost use Rattle.logic.specs.Meanings.{Valued};
 ghost use Rattle.formulas.specs.Records.{record-at, record-of};
@@ -39,29 +39,51 @@ impl Vocabulary {
     }
 
     // The record of a formula; that of ⊥ where no formula has the number.
-    pub fn record(&self, n: u16) -> Record
+    pub(crate) fn record(&self, n: u16) -> Record
         ensures { λ r. ⌜ r ≡ record-of (node (model (now (self .entry))) n) ⌝ }
     {
         self.entry(n)
     }
 
-    // Whether r is the record of formula n.
-    pub fn has_record(&self, n: u16, r: Record) -> bool
-        ensures { λ answer. ⌜ T answer ↔ (record-of (node (model (now (self .entry))) n) ≡ r) ⌝ }
+    pub(crate) fn knows_formula(&self, n: u16) -> bool
+        ensures { λ r. ⌜ r ≡ knows-formula (model (now (self .entry))) n ⌝ }
     {
-        r.same(self.record(n))
+        (n as usize) < self.formula_count()
+    }
+
+    pub fn formula(&self, n: u16) -> Option<Record>
+        ensures { λ r. ⌜ r ≡ cond (knows-formula (model (now (self .entry))) n) (Some (record-of (node (model (now (self .entry))) n))) None ⌝ }
+    {
+        if self.knows_formula(n) {
+            Some(self.record(n))
+        } else {
+            None
+        }
+    }
+
+    // Whether n is the number of a formula with the record r.
+    pub fn has_record(&self, n: u16, r: Record) -> bool
+        ensures { λ answer. ⌜ T answer ↔ (T (knows-formula (model (now (self .entry))) n) × (record-of (node (model (now (self .entry))) n) ≡ r)) ⌝ }
+    {
+        let known = self.knows_formula(n);
+        let same = r.same(self.record(n));
+        known & same
     }
 
     pub fn is_predicate(&self, n: u16) -> bool
         ensures { λ r. ⌜ r ≡ is-predicate (model (now (self .entry))) n ⌝ }
     {
-        (n as usize) < self.formula_count() && !self.record(n).kind.is_expression()
+        let known = self.knows_formula(n);
+        let expression = self.record(n).kind.is_expression();
+        known & !expression
     }
 
     pub fn is_expression(&self, n: u16) -> bool
         ensures { λ r. ⌜ r ≡ is-expression (model (now (self .entry))) n ⌝ }
     {
-        (n as usize) < self.formula_count() && self.record(n).kind.is_expression()
+        let known = self.knows_formula(n);
+        let expression = self.record(n).kind.is_expression();
+        known & expression
     }
 
     // The type, weight and depth of a formula; of no formula, what ⊥ would have.
@@ -82,16 +104,24 @@ impl Vocabulary {
         }
     }
 
-    pub fn weight_of(&self, n: u16) -> u16
-        ensures { λ r. ⌜ r ≡ weight (model (now (self .entry))) n ⌝ }
+    pub fn weight_of(&self, n: u16) -> Option<u16>
+        ensures { λ r. ⌜ r ≡ cond (knows-formula (model (now (self .entry))) n) (Some (weight (model (now (self .entry))) n)) None ⌝ }
     {
-        self.facts_at(n).weight
+        if self.knows_formula(n) {
+            Some(self.facts_at(n).weight)
+        } else {
+            None
+        }
     }
 
-    pub fn depth_of(&self, n: u16) -> u16
-        ensures { λ r. ⌜ r ≡ depth (model (now (self .entry))) n ⌝ }
+    pub fn depth_of(&self, n: u16) -> Option<u16>
+        ensures { λ r. ⌜ r ≡ cond (knows-formula (model (now (self .entry))) n) (Some (depth (model (now (self .entry))) n)) None ⌝ }
     {
-        self.facts_at(n).depth
+        if self.knows_formula(n) {
+            Some(self.facts_at(n).depth)
+        } else {
+            None
+        }
     }
 
     // The type of an expression; its value is one of that type's.

@@ -9,6 +9,9 @@ ghost use Rattle.logic.specs.Formulas.{In, parts, sort};
 ghost use Rattle.formulas.specs.Records.{sort-of};
 ghost use Rattle.vocabulary.specs.Calls.{add-type, knows-type, new-carrier, new-set-name, new-variable, product};
 ghost use Rattle.vocabulary.specs.View.{model};
+use crate::limits::MAX_SET_NAMES;
+use crate::limits::MAX_TYPES;
+use crate::limits::MAX_VARIABLES;
 use crate::store::Vocabulary;
 use formulas::records::TypeDef;
 use formulas::refusals::Refusal;
@@ -34,7 +37,7 @@ impl Vocabulary {
         ensures after { λ r. ⌜ model (now (self .exit)) ≡ add-type (model (now (self .entry))) (sort-of d) .after ⌝ }
     {
         let n = self.type_count();
-        if n >= 64 {
+        if n >= MAX_TYPES {
             return Err(Refusal::TypesFull);
         }
         self.types.push_reserved(d);
@@ -80,7 +83,7 @@ impl Vocabulary {
             return Err(Refusal::UnknownType);
         }
         let n = self.variables.len();
-        if n >= 256 {
+        if n >= MAX_VARIABLES {
             return Err(Refusal::VariablesFull);
         }
         self.variables.push_reserved(t);
@@ -95,7 +98,7 @@ impl Vocabulary {
             return Err(Refusal::UnknownType);
         }
         let n = self.set_names.len();
-        if n >= 64 {
+        if n >= MAX_SET_NAMES {
             return Err(Refusal::SetNamesFull);
         }
         self.set_names.push_reserved(t);
