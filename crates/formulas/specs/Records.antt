@@ -3,9 +3,11 @@ use mathlib.Core.Bool.{Bool, true, _&&_}
 use mathlib.Core.List.{List}
 use mathlib.Core.Path.{_≡_}
 use Prim.Native.Nat.{ℕ}
-use lib.Dec.{eqb}
+use mathlib.Core.Logic.{_↔_}
+use lib.Dec.{T, eqb}
 use lib.ListN.{getD}
-use Rattle.logic.specs.Formulas.{Connective, and, or, implies, iff, Quantifier, forall, exists, Shape, variable, pair, falsity, truth, negation, join, bind, equal, member, Sort, carrier, product}
+use Rattle.logic.specs.Formulas.{Connective, and, or, implies, iff, Quantifier, forall, exists, Shape, variable, pair, falsity, truth, negation, join, bind, equal, member, Sort, carrier, product, Vocabulary, node}
+use Rattle.logic.specs.Deciding.{knows-formula}
 use Rattle.formulas.specs.declared.kinds.Kind.{Kind}
 use Rattle.formulas.specs.declared.kinds.Kind.the-variants.{Variable, Pair, False, True, Not, And, Or, Implies, Iff, ForAll, Exists, Equal, Member}
 use Rattle.formulas.specs.declared.kinds.Role.{Role}
@@ -85,6 +87,11 @@ abbrev pub sort-of : TypeDef → Sort ℕ
 sort-of Carrier = carrier
 sort-of (Product s t) = product s t
 
--- a shape is that of its record, and a record whose unused operands are 0 is that of its shape
+-- formula n is known and has the record r
+abbrev pub has-record : Vocabulary → ℕ → Record → Bool
+has-record v n r = knows-formula v n && same-record r (record-of (node v n))
+
+-- a shape is that of its record; a record whose unused operands are 0 is that of its shape; and same-record compares the whole
 abbrev pub Records-are-shapes : Type 0
-Records-are-shapes = ((s : Shape ℕ) → shape-of (record-of s) ≡ s) × ((r : Record) → plain r ≡ true → record-of (shape-of r) ≡ r)
+Records-are-shapes = ((s : Shape ℕ) → shape-of (record-of s) ≡ s) × ((r : Record) → plain r ≡ true → record-of (shape-of r) ≡ r) ×
+    ((r s : Record) → T (same-record r s) ↔ (s ≡ r))

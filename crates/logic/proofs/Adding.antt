@@ -2,13 +2,13 @@
 use mathlib.Core.Path.{_≡_, refl, sym, _∙_, ap}
 use mathlib.Core.List.{List, [], _∷_, append-nil}
 use mathlib.Core.Logic.{⊎-elim}
-use mathlib.Core.Bool.{Bool, true, false, not}
+use mathlib.Core.Bool.{true, false, not}
 use Prim.Native.Nat.{ℕ, _≤_, _<_}
 use lib.Dec.{T, ltb, lt→ltb}
-use lib.ListN.{length, List·getD-eq-default}
+use lib.ListN.{length}
 use lib.Seq.{getD-append-seam}
 use Rattle.std.proofs.shelf.Tests.{cases-bool, cases-lt}
-use Rattle.logic.specs.Formulas.{In, Shape, variable, pair, falsity, truth, negation, join, bind, equal, member, operands, through, Vocabulary, node, variable-type, ask, HasType, predicate-shape, Falling, WellFormed, Sort}
+use Rattle.logic.specs.Formulas.{In, Shape, variable, pair, falsity, truth, negation, join, bind, equal, member, operands, through, Vocabulary, node, variable-type, ask, predicate-shape, Falling, WellFormed, Sort}
 use Rattle.logic.specs.Growing.{Grows, with-type, with-variable, with-set, with-formula}
 use Rattle.logic.specs.Deciding.{type-of, type-of-layer}
 use Rattle.logic.proofs.Falling.{asked, through-agree}

@@ -1,12 +1,11 @@
 -- Two lemmas on meanings: only free variables count; a formula with e for x means what the formula means with x at e's value.
 use mathlib.Core.Path.{_≡_, refl, sym, _∙_, ap, ap₂, subst, fun-ext}
-use mathlib.Core.List.{List, [], _∷_}
-use mathlib.Core.Logic.{_⊎_, inl, inr}
-use mathlib.Core.Bool.{Bool, true, false, not, _&&_, _||_, cond}
-use Prim.Native.Nat.{ℕ, zero, suc, _≤_, _<_}
-use native.Mathlib.Omega.{arith}
+use mathlib.Core.List.{List}
+use mathlib.Core.Logic.{inl, inr}
+use mathlib.Core.Bool.{Bool, true, false, not, cond}
+use Prim.Native.Nat.{ℕ}
 use lib.Dec.{T, eqb, eqb→eq, eqb-refl, T-not, not-T}
-use Rattle.logic.specs.Formulas.{In, Quantifier, forall, exists, Shape, variable, pair, falsity, truth, negation, join, bind, equal, member, operands, through, Vocabulary, node, variable-type, ask, free, free-layer, replaced, Substituted, substituted-layer, Falling, WellFormed}
+use Rattle.logic.specs.Formulas.{In, Shape, variable, pair, falsity, truth, negation, join, bind, equal, member, operands, through, Vocabulary, node, variable-type, free, free-layer, replaced, Substituted, substituted-layer, Falling, WellFormed}
 use Rattle.logic.specs.Meanings.{Value, ordered-pair, truth-value, Structure, holds, same, connect, quantify, values, assign, meaning, meaning-layer, Bound-independent, Substitution}
 use Rattle.logic.proofs.Tests.{or-left, or-right, and-both, and-left}
 use Rattle.logic.proofs.Falling.{asked, by-operands}

@@ -1,13 +1,10 @@
 -- What is entered later changes nothing for what was there.
-use mathlib.Core.Path.{_≡_, refl, sym, _∙_, ap, ap₂, subst}
-use mathlib.Core.List.{List, [], _∷_, _++_}
-use mathlib.Core.Logic.{_⊎_, inl, inr}
-use mathlib.Core.Bool.{Bool, not, _||_}
-use Prim.Native.Nat.{ℕ, zero, suc, _+_, _≤_, _<_}
+use mathlib.Core.Path.{_≡_, refl, _∙_, ap}
+use mathlib.Core.List.{List, _++_}
+use Prim.Native.Nat.{ℕ, _+_, _<_}
 use native.Mathlib.Omega.{arith}
-use lib.Dec.{T}
-use lib.ListN.{length, getD, length-append, List·getD-append}
-use Rattle.logic.specs.Formulas.{In, Shape, variable, pair, falsity, truth, negation, join, bind, equal, member, operands, through, Sort, carrier, product, parts, across, Vocabulary, node, sort, variable-type, ask, free, Formed, WellFormed}
+use lib.ListN.{length, getD, List·getD-append}
+use Rattle.logic.specs.Formulas.{Shape, variable, pair, falsity, truth, negation, join, bind, equal, member, through, carrier, Vocabulary, node, sort, variable-type, ask, Formed, WellFormed}
 use Rattle.logic.specs.Growing.{Grows}
 use Rattle.logic.specs.Meanings.{Value, Structure, values, values-layer, holds, meaning, meaning-layer, quantify, assign, truth-value}
 use Rattle.logic.proofs.Falling.{asked, by-operands, by-parts, through-agree}

@@ -1,12 +1,12 @@
 -- The value of an expression is one of the values of its type.
-use mathlib.Core.Path.{_≡_, refl, sym, _∙_, ap, ap₂, subst}
+use mathlib.Core.Path.{_≡_, refl, ap, ap₂, subst}
 use mathlib.Core.List.{List, [], _∷_, _++_, map}
-use mathlib.Core.Logic.{_⊎_, inl, inr}
-use mathlib.Core.Bool.{Bool, true, false, not, _&&_, _||_, cond}
-use Prim.Native.Nat.{ℕ, zero, suc, _≤_, _<_}
-use lib.Dec.{T, eqb, eqb→eq, eqb-refl}
+use mathlib.Core.Logic.{inl, inr}
+use mathlib.Core.Bool.{Bool, true, false, cond}
+use Prim.Native.Nat.{ℕ, _<_}
+use lib.Dec.{T, eqb, eqb→eq}
 use lib.ListN.{length}
-use Rattle.logic.specs.Formulas.{In, Shape, variable, pair, falsity, truth, negation, join, bind, equal, member, operands, through, Sort, carrier, product, parts, across, Vocabulary, node, sort, variable-type, ask, HasType, type-layer, Falling, TypesFalling, WellFormed}
+use Rattle.logic.specs.Formulas.{In, Shape, variable, pair, falsity, truth, negation, join, bind, equal, member, operands, through, Sort, carrier, product, parts, across, Vocabulary, node, sort, variable-type, HasType, type-layer, Falling, WellFormed}
 use Rattle.logic.specs.Meanings.{Value, ordered-pair, Structure, values, values-layer, pairs, assign, meaning, meaning-layer, Interpretation, Values-typed}
 use Rattle.logic.proofs.Falling.{asked, by-operands, descended}
 use Rattle.logic.proofs.Coincidence.{meaning-is}

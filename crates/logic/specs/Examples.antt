@@ -1,8 +1,7 @@
 -- A vocabulary reckoned by hand: one carrier; variables m, c, d; sets senior, reduce; and what is so of it.
 use mathlib.Core.Path.{_≡_}
 use mathlib.Core.List.{List, [], _∷_}
-use mathlib.Core.Bool.{Bool, true, false}
-use Prim.Native.Nat.{ℕ}
+use mathlib.Core.Bool.{true, false}
 use Rattle.logic.specs.Formulas.{implies, forall, exists, variable, negation, join, bind, equal, member, carrier, Vocabulary, free, Is-substitution, weight, depth}
 
 abbrev pub example : Vocabulary

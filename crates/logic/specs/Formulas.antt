@@ -2,7 +2,7 @@
 -- A formula is a number; its entry is a shape over the numbers of its operands. A question about a formula goes down the
 -- operands: it is asked of the operands first, and a layer makes the answer from the shape that has their answers in the operands' places.
 use mathlib.Core.Path.{_≡_}
-use mathlib.Core.List.{List, [], _∷_, _++_}
+use mathlib.Core.List.{List, [], _∷_}
 use mathlib.Core.Logic.{_⊎_}
 use mathlib.Core.Bool.{Bool, true, false, not, _&&_, _||_}
 use Prim.Native.Nat.{ℕ, zero, suc, _+_, max, _≤_, _<_}

@@ -6,7 +6,6 @@ use lib.ListN.{length}
 use mathlib.Core.Logic.{_↔_}
 use Rattle.std.specs.shelf.Lists.{All}
 use Rattle.logic.specs.Formulas.{In, Shape, operands, Sort, product, parts, Vocabulary, node, sort, variable-type, element-type, free, HasType, Is-substitution, Formed, WellFormed, weight, depth}
-use Rattle.logic.specs.Deciding.{type-of}
 use Rattle.logic.specs.Meanings.{Value, Structure, values, meaning, Interpretation, Sequent, Valid}
 
 -- a vocabulary and what was entered after it

@@ -5,7 +5,7 @@ use mathlib.Core.Bool.{Bool, true, false, not, _&&_, _||_, cond, decide, Bool-di
 use native.Mathlib.Decide.{ℕ-discrete}
 use Prim.Native.Nat.{ℕ, zero, suc, _<_}
 use lib.Dec.{T, eqb}
-use lib.ListN.{length, getD}
+use lib.ListN.{length}
 use Rattle.logic.specs.Formulas.{In, Connective, and, or, implies, iff, Quantifier, forall, exists, Shape, variable, pair, falsity, truth, negation, join, bind, equal, member, Sort, carrier, product, across, Vocabulary, sort, variable-type, element-type, descend, ask, free, HasType, Is-substitution, WellFormed}
 
 -- the value of an expression is a thing or a pair, that of a predicate a truth value

@@ -125,7 +125,8 @@ impl Vocabulary {
         None
     }
 
-    fn formula_number(&self, r: Record) -> Option<u16>
+    // The number of the formula that has a record, if there is one.
+    pub fn formula_number(&self, r: Record) -> Option<u16>
         ensures { λ answer. ⌜ answer ≡ formula-number (model (now (self .entry))) r ⌝ }
     {
         for (i, s) in self.records.iter().enumerate() {

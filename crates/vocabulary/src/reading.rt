@@ -1,16 +1,14 @@
 // What is stored of a formula, a variable and a set name.
 ghost use Prim.Native.Nat.{ℕ, _≤_};
 ghost use mathlib.Core.Bool.{cond};
-ghost use mathlib.Core.Logic.{_↔_};
 ghost use mathlib.Core.Path.{_≡_};
-ghost use lib.Dec.{T};
 ghost use lib.ListN.{length};
 ghost use Rattle.std.specs.Of.Vec.{vec-items, vec-len};
 ghost use Rattle.std.specs.declared.option.Option.the-variants.{Some, None};
 ghost use Rattle.logic.specs.Deciding.{is-expression, is-predicate, knows-formula, type-of};
 ghost use Rattle.logic.specs.Formulas.{node, variable-type, element-type, weight, depth};
 ghost use Rattle.logic.specs.Meanings.{Valued};
-ghost use Rattle.formulas.specs.Records.{record-at, record-of};
+ghost use Rattle.formulas.specs.Records.{has-record, record-at, record-of};
 ghost use Rattle.vocabulary.specs.View.{model};
 use crate::facts::Facts;
 use crate::store::Vocabulary;
@@ -63,7 +61,7 @@ impl Vocabulary {
 
     // Whether n is the number of a formula with the record r.
     pub fn has_record(&self, n: u16, r: Record) -> bool
-        ensures { λ answer. ⌜ T answer ↔ (T (knows-formula (model (now (self .entry))) n) × (record-of (node (model (now (self .entry))) n) ≡ r)) ⌝ }
+        ensures { λ answer. ⌜ answer ≡ has-record (model (now (self .entry))) n r ⌝ }
     {
         let known = self.knows_formula(n);
         let same = r.same(self.record(n));
