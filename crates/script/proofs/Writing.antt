@@ -1,0 +1,184 @@
+-- A command that is written reads as the same command.
+use mathlib.Core.Path.{_≡_, refl, sym, ap, _∙_}
+use mathlib.Core.Bool.{Bool, true, false, _&&_}
+use mathlib.Core.List.{List, [], _∷_, _++_, map, append-nil}
+use Prim.Native.Nat.{ℕ, _+_, _-_, _*_, _^_, _≤_, _<_}
+use native.Mathlib.Omega.{arith}
+use borrow.Author.Needs.{needs}
+use borrow.Author.Tests.{lt-ltb, ne-eqb}
+use lib.Dec.{eqb}
+use lib.ListN.{length}
+use Rattle.std.specs.Options.{mapped}
+use Rattle.std.specs.Text.{asciiDigit}
+use Rattle.std.specs.Written.{decimal}
+use Rattle.std.specs.shelf.Text.{allDigits}
+use Rattle.std.specs.declared.option.Option.the-variants.{Some}
+use Rattle.std.proofs.shelf.Numerals.{Numerals, numerals-by-fold, tells-allDigits}
+use Rattle.std.proofs.shelf.Decimals.{decimal-some, digits-decimal, value-decimal}
+use Rattle.script.specs.declared.command.Call.the-variants as calls
+use Rattle.script.specs.declared.command.Command.the-variants as commands
+use Rattle.script.specs.declared.command.Line.the-variants.{Asks}
+use Rattle.script.specs.declared.command.Verb.{Verb}
+use Rattle.script.specs.declared.command.Verb.the-variants.{Book, Use, Carrier, Product, Variable, Set, Formula, Free, Substitution}
+use Rattle.script.specs.Commands.{read, read-words, understood, of-verb, verb-named, text-of, word-of, spaced, bits, count, with-numbers, Within, Reads-back}
+use Rattle.script.specs.Words.{Bytes, words, lengthen, read-digits, bounded, number, numbers, both}
+use Rattle.script.proofs.Splitting.{chosen}
+
+-- the number that digits write after those of n
+abbrev value-after : ℕ → Bytes → ℕ
+value-after n [] = n
+value-after n (b ∷ bs) = value-after (n * 10 + (b - 48)) bs
+
+own : Numerals (λ ds. allDigits ds ≡ true) (value-after 0)
+own = numerals-by-fold _ tells-allDigits value-after (search needs)
+
+both-true : (s t : Bool) → (s && t) ≡ true → (s ≡ true) × (t ≡ true)
+both-true true t e = (refl, e)
+both-true false t e = let z : _≡_ {A = ℕ} 0 1 = cc in absurd (omega arith)
+
+digits-read : (n : ℕ) (ds : Bytes) → allDigits ds ≡ true → read-digits n ds ≡ Some (value-after n ds)
+digits-read n [] e = refl
+digits-read n (d ∷ ds) e =
+    let parts = both-true (asciiDigit d) (allDigits ds) e in
+    chosen _ true _ _ (parts .0) ∙ digits-read (n * 10 + (d - 48)) ds (parts .1)
+
+some-digits : (bits n : ℕ) (ds : Bytes) → 0 < length ds → read-digits 0 ds ≡ Some n → n < 2 ^ bits → number bits ds ≡ Some n
+some-digits bits n [] l e h = absurd (omega arith)
+some-digits bits n (d ∷ ds) l e h = ap (bounded bits) e ∙ chosen _ true _ _ (lt-ltb n (2 ^ bits) h)
+
+number-written : (bits n : ℕ) → n < 2 ^ bits → n < 2 ^ 64 → number bits (decimal n) ≡ Some n
+number-written bits n h small =
+    some-digits bits n (decimal n) (decimal-some n small) (digits-read 0 (decimal n) (digits-decimal own n small) ∙ ap (λ v. Some v) (value-decimal own n small)) h
+
+-- bytes that are no spaces
+abbrev Solid : Bytes → Type 0
+Solid [] = Unit {0}
+Solid (b ∷ bs) = (eqb b 32 ≡ false) × Solid bs
+
+-- a text that is empty or begins with a space
+abbrev Apart : Bytes → Type 0
+Apart [] = Unit {0}
+Apart (b ∷ bs) = eqb b 32 ≡ true
+
+word-then : (b : ℕ) (w rest : Bytes) → Solid (b ∷ w) → Apart rest → words ((b ∷ w) ++ rest) ≡ (b ∷ w) ∷ words rest
+word-then b [] [] s a = chosen _ false _ _ (s .0)
+word-then b [] (c ∷ rest) s a = chosen _ false _ _ (s .0) ∙ chosen _ true _ _ a
+word-then b (c ∷ w) rest s a = chosen _ false _ _ (s .0) ∙ chosen _ false _ _ (s .1 .0) ∙ ap (lengthen b) (word-then c w rest (s .1) a)
+
+space-no-digit : (d : ℕ) → asciiDigit d ≡ true → d ≡ 32 → ⊥
+space-no-digit d t e = let z : true ≡ false = sym t ∙ ap asciiDigit e in let n : _≡_ {A = ℕ} 0 1 = cc in omega arith
+
+solid-digits : (ds : Bytes) → allDigits ds ≡ true → Solid ds
+solid-digits [] e = tt
+solid-digits (d ∷ ds) e =
+    let parts = both-true (asciiDigit d) (allDigits ds) e in
+    (ne-eqb d 32 (λ e. space-no-digit d (parts .0) e), solid-digits ds (parts .1))
+
+-- the words of numbers that are written
+abbrev Small : List ℕ → Type 0
+Small [] = Unit {0}
+Small (n ∷ ns) = (n < 2 ^ 64) × Small ns
+
+spaced-apart : (ns : List ℕ) → Apart (spaced ns)
+spaced-apart [] = tt
+spaced-apart (n ∷ []) = refl
+spaced-apart (n ∷ m ∷ ns) = refl
+
+digits-then : (ds rest : Bytes) → 0 < length ds → Solid ds → Apart rest → words (ds ++ rest) ≡ ds ∷ words rest
+digits-then [] rest l s a = absurd (omega arith)
+digits-then (d ∷ ds) rest l s a = word-then d ds rest s a
+
+decimal-then : (n : ℕ) (rest : Bytes) → n < 2 ^ 64 → Apart rest → words (decimal n ++ rest) ≡ decimal n ∷ words rest
+decimal-then n rest h a = digits-then (decimal n) rest (decimal-some n h) (solid-digits (decimal n) (digits-decimal own n h)) a
+
+spaced-words : (ns : List ℕ) → Small ns → words (spaced ns) ≡ map decimal ns
+spaced-words [] s = refl
+spaced-words (n ∷ []) s = ap words (sym (append-nil (decimal n))) ∙ decimal-then n [] (s .0) tt
+spaced-words (n ∷ m ∷ ns) s = decimal-then n (spaced (m ∷ ns)) (s .0) (spaced-apart (m ∷ ns)) ∙ ap (λ l. decimal n ∷ l) (spaced-words (m ∷ ns) (s .1))
+
+numbers-written : (bits : ℕ) (ns : List ℕ) → Within bits ns → Small ns → numbers bits (length ns) (map decimal ns) ≡ Some ns
+numbers-written bits [] h s = refl
+numbers-written bits (n ∷ ns) h s =
+    ap (λ r. both r (numbers bits (length ns) (map decimal ns))) (number-written bits n (h .0) (s .0)) ∙ ap (both (Some n)) (numbers-written bits ns (h .1) (s .1))
+
+some-word : (v : Verb) → 0 < length (word-of v)
+some-word Book = omega arith
+some-word Use = omega arith
+some-word Carrier = omega arith
+some-word Product = omega arith
+some-word Variable = omega arith
+some-word Set = omega arith
+some-word Formula = omega arith
+some-word Free = omega arith
+some-word Substitution = omega arith
+
+solid-word : (v : Verb) → Solid (word-of v)
+solid-word Book = search needs
+solid-word Use = search needs
+solid-word Carrier = search needs
+solid-word Product = search needs
+solid-word Variable = search needs
+solid-word Set = search needs
+solid-word Formula = search needs
+solid-word Free = search needs
+solid-word Substitution = search needs
+
+text-words : (v : Verb) (ns : List ℕ) → Small ns → words (text-of v ns) ≡ word-of v ∷ map decimal ns
+text-words v ns s = digits-then (word-of v) (spaced ns) (some-word v) (solid-word v) (spaced-apart ns) ∙ ap (λ l. word-of v ∷ l) (spaced-words ns s)
+
+first-read : (v : Verb) (ns : List ℕ) → read (text-of v ns) ≡ read-words (words (text-of v ns))
+first-read Book ns = refl
+first-read Use ns = refl
+first-read Carrier ns = refl
+first-read Product ns = refl
+first-read Variable ns = refl
+first-read Set ns = refl
+first-read Formula ns = refl
+first-read Free ns = refl
+first-read Substitution ns = refl
+
+known : (v : Verb) → verb-named (word-of v) ≡ Some v
+known Book = refl
+known Use = refl
+known Carrier = refl
+known Product = refl
+known Variable = refl
+known Set = refl
+known Formula = refl
+known Free = refl
+known Substitution = refl
+
+few-bits : (v : Verb) → 2 ^ bits v ≤ 2 ^ 64
+few-bits Book = omega arith
+few-bits Use = omega arith
+few-bits Carrier = omega arith
+few-bits Product = omega arith
+few-bits Variable = omega arith
+few-bits Set = omega arith
+few-bits Formula = omega arith
+few-bits Free = omega arith
+few-bits Substitution = omega arith
+
+small : (k : ℕ) (ns : List ℕ) → 2 ^ k ≤ 2 ^ 64 → Within k ns → Small ns
+small k [] l h = tt
+small k (n ∷ ns) l h = (omega (arith, h .0), small k ns l (h .1))
+
+read-verb : (v : Verb) (ns : List ℕ) → length ns ≡ count v → Within (bits v) ns → read (text-of v ns) ≡ Asks (with-numbers v ns)
+read-verb v ns l h =
+    let s = small (bits v) ns (few-bits v) h in
+    first-read v ns
+    ∙ ap read-words (text-words v ns s)
+    ∙ ap (λ o. understood (of-verb o (map decimal ns))) (known v)
+    ∙ ap (λ k. understood (mapped (with-numbers v) (numbers (bits v) k (map decimal ns)))) (sym l)
+    ∙ ap (λ r. understood (mapped (with-numbers v) r)) (numbers-written (bits v) ns h s)
+
+pub reads-back : Reads-back
+reads-back (commands.Book n) h = read-verb Book (n ∷ []) refl h
+reads-back (commands.Use k) h = read-verb Use (k ∷ []) refl h
+reads-back (commands.Call calls.Carrier) h = read-verb Carrier [] refl h
+reads-back (commands.Call (calls.Product s t)) h = read-verb Product (s ∷ t ∷ []) refl h
+reads-back (commands.Call (calls.Variable t)) h = read-verb Variable (t ∷ []) refl h
+reads-back (commands.Call (calls.Set t)) h = read-verb Set (t ∷ []) refl h
+reads-back (commands.Call (calls.Formula k p q)) h = read-verb Formula (k ∷ p ∷ q ∷ []) refl h
+reads-back (commands.Call (calls.Free x n)) h = read-verb Free (x ∷ n ∷ []) refl h
+reads-back (commands.Call (calls.Substitution q p x e)) h = read-verb Substitution (q ∷ p ∷ x ∷ e ∷ []) refl h

@@ -1,0 +1,6 @@
+use mathlib.Core.Path.{ap}
+use Rattle.script.specs.Replies.{reply-text}
+use Rattle.script.proofs.reply.ReplyDisplay.fmt.Needs as need
+
+pub returns-in-NotUnderstood : need.returns-in-NotUnderstood
+returns-in-NotUnderstood g c = let e = ap reply-text (c .in-NotUnderstood .is) in λ plain ok. rw e (c .write-in-NotUnderstood .ensures .shows plain ok)

@@ -1,0 +1,33 @@
+use mathlib.Core.Path.{_≡_, refl, sym, ap, subst}
+use Prim.Native.Nat.{_≤_, _<_}
+use lib.ListN.{length, getD}
+use borrow.Author.Needs.{needs}
+use Rattle.std.specs.Of.Vec.{vec-items}
+use Rattle.script.specs.declared.reply.Reply.the-variants.{NoSuchBook}
+use Rattle.script.specs.Sessions.{Asked}
+use Rattle.script.proofs.Shelved.{here, nowhere, changed, unchanged, session}
+use Rattle.script.proofs.session.Session.pass_on.Needs as need
+
+pub returns-in-Some : need.returns-in-Some
+returns-in-Some c =
+    let s = c .args .self .now in
+    let books = vec-items (s .books) in
+    let b = c .in-Some .book .now in
+    let within : s .current < length books = search needs in
+    let is : b ≡ getD books (s .current) b = search needs in
+    let at = here books (s .current) b within is in
+    record {
+      answer = subst (λ o. Asked o (c .args .call) (c .answer .result)) (sym at) (c .answer .ensures .answer);
+      after = ap (λ bs. session bs (s .current) (s .lines) (s .understood)) (changed books (s .current) b (c .answer .last .self) (c .args .call) within is (c .answer .ensures .after));
+    }
+
+pub returns-in-None : need.returns-in-None
+returns-in-None c =
+    let s = c .args .self .now in
+    let books = vec-items (s .books) in
+    let past : length books ≤ s .current = search needs in
+    let at = nowhere books (s .current) past in
+    record {
+      answer = subst (λ o. Asked o (c .args .call) NoSuchBook) (sym at) refl;
+      after = ap (λ bs. session bs (s .current) (s .lines) (s .understood)) (unchanged books (s .current) (c .args .call) past);
+    }

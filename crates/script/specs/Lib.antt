@@ -1,0 +1,5 @@
+pub mod Words
+pub mod Commands
+pub mod Replies
+pub mod Books
+pub mod Sessions

@@ -1,0 +1,3 @@
+// What lines ask and are answered, on examples.
+#[cfg(test)]
+mod tests;

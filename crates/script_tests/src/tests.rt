@@ -1,0 +1,159 @@
+// Lines read one by one, and scripts run through a session.
+use script::command::Call;
+use script::command::CallDebug;
+use script::command::CallPartialEq;
+use script::command::Command;
+use script::command::CommandDebug;
+use script::command::CommandDisplay;
+use script::command::CommandPartialEq;
+use script::command::Line;
+use script::command::LineDebug;
+use script::command::LinePartialEq;
+use script::command::read_line;
+use script::reply::ReplyDisplay;
+use script::session::Session;
+use std::test::*;
+
+// The commands, with numbers at the ends of their range, spaces and leading zeros.
+const READ: [(&str, Command); 14] = [
+    ("book 0", Command::Book(0)),
+    ("book 4294967295", Command::Book(4294967295)),
+    ("use 65535", Command::Use(65535)),
+    ("carrier", Command::Call(Call::Carrier)),
+    ("  carrier ", Command::Call(Call::Carrier)),
+    ("product 1 2", Command::Call(Call::Product(1, 2))),
+    ("variable 65535", Command::Call(Call::Variable(65535))),
+    (
+        "variable 000000000000000000000065535",
+        Command::Call(Call::Variable(65535)),
+    ),
+    ("set 9", Command::Call(Call::Set(9))),
+    ("formula 12 0 1", Command::Call(Call::Formula(12, 0, 1))),
+    (
+        "  formula   012  0     01  ",
+        Command::Call(Call::Formula(12, 0, 1)),
+    ),
+    ("free 1 3", Command::Call(Call::Free(1, 3))),
+    (
+        "substitution 8 3 1 5",
+        Command::Call(Call::Substitution(8, 3, 1, 5)),
+    ),
+    ("book 0000000000000", Command::Book(0)),
+];
+
+#[test]
+fn commands_are_read(rt: LibcRuntime) -> Result<(), Fail> {
+    for (text, command) in READ {
+        check_eq(read_line(text.as_bytes()), Line::Asks(command))?;
+        let written = command.to_string(rt.alloc())?;
+        check_eq(read_line(written.as_str().as_bytes()), Line::Asks(command))?;
+    }
+    Ok(())
+}
+
+const SILENT: [&str; 6] = ["", " ", "     ", "#", "# book 7", "#book"];
+
+#[test]
+fn blanks_and_comments_are_silent() -> Result<(), Fail> {
+    for text in SILENT {
+        check_eq(read_line(text.as_bytes()), Line::Silent)?;
+    }
+    Ok(())
+}
+
+const NOT_UNDERSTOOD: [&[u8]; 29] = [
+    b"book",
+    b"book 4294967296",
+    b"book 99999999999999999999999999999999",
+    b"book 1 2",
+    b"book x",
+    b"use",
+    b"use 65536",
+    b"use 0 0",
+    b"carrier 0",
+    b"carriers",
+    b"Carrier",
+    b"product 1",
+    b"product 1 2 3",
+    b"product 1 65536",
+    b"variable",
+    b"variable +1",
+    b"variable -1",
+    b"variable 1x",
+    b"variable 0x1",
+    b"variable 65536",
+    b"set",
+    b"formula 1 2",
+    b"formula 1 2 3 4",
+    b"free 1",
+    b"substitution 1 2 3",
+    b"variable\t0",
+    b" # a comment begins before any space",
+    b"variable \xff",
+    b"\xc3\x28",
+];
+
+#[test]
+fn other_lines_are_not_understood() -> Result<(), Fail> {
+    for text in NOT_UNDERSTOOD {
+        check_eq(read_line(text), Line::NotUnderstood)?;
+    }
+    Ok(())
+}
+
+// Each line of a script, and what is printed for it.
+const SCRIPT: [(&[u8], &str); 30] = [
+    (b"# nothing is begun yet\n", ""),
+    (b"carrier\n", "no such book"),
+    (b"use 0\n", "no such book"),
+    (b"\n", ""),
+    (b"book 7\r\n", "book 7"),
+    (b"carrier\n", "type 0"),
+    (b"product 0 0", "type 1"),
+    (b"product 0 0\n", "type 1"),
+    (b"variable 0\n", "variable 0"),
+    (b"set 1\n", "set 0"),
+    (b"formula 0 0 0\n", "formula 0"),
+    (b"formula 1 0 0\n", "formula 1"),
+    (b"formula 12 1 0\n", "formula 2"),
+    (b"formula 12 0 0\n", "refused 7 vocabulary 0"),
+    (b"free 0 2\n", "yes"),
+    (b"free 1 2\n", "no"),
+    (b"substitution 2 2 0 0\n", "yes"),
+    (b"substitution 1 2 0 0\n", "no"),
+    (b"book 7\n", "book 7"),
+    (b"variable 0\n", "refused 2 vocabulary 0"),
+    (b"use 2\n", "no such book"),
+    (b"carrier\n", "type 0"),
+    (b"use 0\n", "book 7"),
+    (b"carrier\n", "type 2"),
+    (b"use 1\n", "book 7"),
+    (b"carrier\n", "type 1"),
+    (b"formula 4\n", "line 27: not understood"),
+    (b"\xff\n", "line 28: not understood"),
+    (b"carrier\r", "line 29: not understood"),
+    (b"carrier\r\n", "type 2"),
+];
+
+#[test]
+fn scripts_are_answered(rt: LibcRuntime) -> Result<(), Fail> {
+    let mut session = Session::new(rt.alloc());
+    for (text, expected) in SCRIPT {
+        match session.line(text)? {
+            Some(reply) => check_eq(reply.to_string(rt.alloc())?.as_str(), expected)?,
+            None => check_eq("", expected)?,
+        }
+    }
+    check(!session.understood())
+}
+
+#[test]
+fn an_understood_script_is_said_to_be_one(rt: LibcRuntime) -> Result<(), Fail> {
+    let mut session = Session::new(rt.alloc());
+    for text in SILENT {
+        check(session.line(text.as_bytes())?.is_none())?;
+    }
+    session.line(b"book 1")?;
+    session.line(b"formula 1 2 3")?;
+    check(session.understood())
+}
