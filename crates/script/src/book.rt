@@ -5,10 +5,10 @@ ghost use Rattle.script.specs.Books.{model, new-book, granted, said, Answers, 
 use crate::command::Call;
 use crate::reply::Reply;
 use crate::reply::Thing;
-use std::alloc::AllocError;
-use std::alloc::Global;
 use formulas::calls::Call as Entering;
 use formulas::refusals::Refusal;
+use std::alloc::AllocError;
+use std::alloc::Global;
 use vocabulary::store::Vocabulary;
 
 #[derive(Drop)]

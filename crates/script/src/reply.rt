@@ -2,11 +2,11 @@
 ghost use mathlib.Core.Path.{_≡_};
 ghost use Rattle.std.specs.declared.option.Option.the-variants.{Some};
 ghost use Rattle.script.specs.Replies.{layer-text, thing-text, reply-text};
-use std::fmt;
 use formulas::refusals::Layer;
 use formulas::refusals::Notice;
 use formulas::refusals::NoticeDebug;
 use formulas::refusals::NoticePartialEq;
+use std::fmt;
 
 // What has a number in a book.
 #[derive(Clone, Copy, PartialEq, Eq, Debug)]
