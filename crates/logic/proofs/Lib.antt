@@ -8,4 +8,7 @@ pub mod Deciding
 pub mod Restoring
 pub mod Adding
 pub mod Keeping
+pub mod Soundness
+pub mod Comparing
+pub mod Unique
 pub mod Examples

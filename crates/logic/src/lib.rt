@@ -2,7 +2,10 @@
 ghost use Rattle.logic.specs.Deciding.{Types-decided, Formed-decided, Sure-well-formed};
 ghost use Rattle.logic.specs.Examples.{Worked-example};
 ghost use Rattle.logic.specs.Growing.{Growth-keeps, Stays-well-formed, Enters-well, Others-enter-well};
+ghost use Rattle.logic.specs.Rules.{Sound, Instance-by-sets, Mon-by-subset, Consistent, Lines-unique, Judged-by-line, False-by-member};
 ghost use Rattle.logic.specs.Meanings.{Coincidence, Bound-independent, Substitution, Values-typed};
+
+pub mod rule;
 
 // Truth depends on free variables only.
 pub fn meaning_depends_on_free_variables() -> u8
@@ -84,6 +87,55 @@ pub fn sure_is_well_formed() -> u8
 // The worked example.
 pub fn worked_example_stands() -> u8
     ensures { λ _. ⌜ Worked-example ⌝ }
+{
+    0
+}
+
+// Where all premises of an instance are valid, so is its sequent.
+pub fn rules_are_sound() -> u8
+    ensures { λ _. ⌜ Sound ⌝ }
+{
+    0
+}
+
+// ⊥ is not valid.
+pub fn rules_are_consistent() -> u8
+    ensures { λ _. ⌜ Consistent ⌝ }
+{
+    0
+}
+
+// Some H fits exactly when the least one does, which comparing sets tells.
+pub fn sets_decide() -> u8
+    ensures { λ _. ⌜ Instance-by-sets ⌝ }
+{
+    0
+}
+
+// MON is weakening by a subset.
+pub fn mon_is_by_subset() -> u8
+    ensures { λ _. ⌜ Mon-by-subset ⌝ }
+{
+    0
+}
+
+// FALSE_L asks for ⊥ among the hypotheses.
+pub fn falsity_is_by_member() -> u8
+    ensures { λ _. ⌜ False-by-member ⌝ }
+{
+    0
+}
+
+// Arguments and goals determine a step's line of the table.
+pub fn lines_are_unique() -> u8
+    ensures { λ _. ⌜ Lines-unique ⌝ }
+{
+    0
+}
+
+// So a step is judged by that line alone.
+pub fn lines_judge() -> u8
+    ensures { λ _. ⌜ Judged-by-line ⌝ }
 {
     0
 }

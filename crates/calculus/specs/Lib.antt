@@ -1,0 +1,5 @@
+pub mod Rising
+pub mod Model
+pub mod Theories
+pub mod Refusals
+pub mod Derivations
