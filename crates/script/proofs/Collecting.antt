@@ -7,7 +7,7 @@ use lib.ListN.{length, take, set}
 use Rattle.std.specs.declared.option.Option.{Option}
 use Rattle.std.specs.declared.option.Option.the-variants.{Some, None}
 use Rattle.std.proofs.shelf.Lists.{take-more-set, take-all}
-use Rattle.script.specs.Words.{Bytes, number, numbers, both}
+use Rattle.script.specs.Words.{Bytes, number, numbers, both, all-numbers}
 
 abbrev pub prefixed : List ℕ → Option (List ℕ) → Option (List ℕ)
 prefixed xs None = None
@@ -55,3 +55,10 @@ module _ (k i : ℕ) (all : List ℕ) (ws : List Bytes) where
 pub none-read : (r : Option (List ℕ)) → prefixed [] r ≡ r
 none-read None = refl
 none-read (Some ys) = refl
+
+pub listed-more : (xs ys : List ℕ) (ws : List Bytes) (w : Bytes) (vs : List Bytes) (n : ℕ) → ws ≡ w ∷ vs → number 16 w ≡ Some n → ys ≡ xs ++ n ∷ [] → prefixed xs (all-numbers ws) ≡ prefixed ys (all-numbers vs)
+listed-more xs ys ws w vs n e h f =
+    ap (λ l. prefixed xs (all-numbers l)) e
+    ∙ ap (λ r. prefixed xs (both r (all-numbers vs))) h
+    ∙ prefixed-more xs n (all-numbers vs)
+    ∙ ap (λ l. prefixed l (all-numbers vs)) (sym f)

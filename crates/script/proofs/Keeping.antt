@@ -15,10 +15,8 @@ use Rattle.vocabulary.proofs.Calling.{entering-law}
 use Rattle.script.specs.declared.command.Call.{Call}
 use Rattle.script.specs.declared.command.Call.the-variants.{Carrier, Product, Variable, Set, Formula, Free, Substitution}
 use Rattle.script.specs.declared.command.Command.the-variants as commands
-use Rattle.script.specs.declared.command.Line.{Line}
-use Rattle.script.specs.declared.command.Line.the-variants.{Silent, NotUnderstood, Asks}
 use Rattle.script.specs.Books.{Book, new-book, after}
-use Rattle.script.specs.Commands.{read, without-ending}
+use Rattle.script.specs.Commands.{Request, silent, not-understood, asks, append, request, without-ending}
 use Rattle.script.specs.Sessions.{Session, start, number, chosen, called-at, following, after-lines, Others-stay, Numbers-stay, Always-current, Always-well-formed}
 use Rattle.script.specs.Words.{Bytes}
 
@@ -56,18 +54,24 @@ as-many (b ∷ bs) zero c = refl
 as-many (b ∷ bs) (suc i) c = ap suc (as-many bs i c)
 
 pub others-stay : Others-stay
-others-stay s Silent k l h = refl
-others-stay s NotUnderstood k l h = refl
-others-stay s (Asks (commands.Book n)) k l h = pushed (s .books) (new-book n) k l
-others-stay s (Asks (commands.Use j)) k l h = refl
-others-stay s (Asks (commands.Call c)) k l h = elsewhere (s .books) (s .current) k c h
+others-stay s silent k l h = refl
+others-stay s not-understood k l h = refl
+others-stay s (asks (commands.Book n)) k l h = pushed (s .books) (new-book n) k l
+others-stay s (asks (commands.Use j)) k l h = refl
+others-stay s (asks (commands.Call c)) k l h = elsewhere (s .books) (s .current) k c h
+others-stay s (asks (commands.Step x)) k l h = refl
+others-stay s (asks commands.Check) k l h = refl
+others-stay s (append ns) k l h = refl
 
 pub numbers-stay : Numbers-stay
-numbers-stay s Silent k l = refl
-numbers-stay s NotUnderstood k l = refl
-numbers-stay s (Asks (commands.Book n)) k l = ap (mapped number) (pushed (s .books) (new-book n) k l)
-numbers-stay s (Asks (commands.Use j)) k l = refl
-numbers-stay s (Asks (commands.Call c)) k l = numbered (s .books) (s .current) k c
+numbers-stay s silent k l = refl
+numbers-stay s not-understood k l = refl
+numbers-stay s (asks (commands.Book n)) k l = ap (mapped number) (pushed (s .books) (new-book n) k l)
+numbers-stay s (asks (commands.Use j)) k l = refl
+numbers-stay s (asks (commands.Call c)) k l = numbered (s .books) (s .current) k c
+numbers-stay s (asks (commands.Step x)) k l = refl
+numbers-stay s (asks commands.Check) k l = refl
+numbers-stay s (append ns) k l = refl
 
 -- one of the books is the current one, if there is any
 abbrev Current : Session → Type 0
@@ -82,16 +86,19 @@ use-one : (s : Session) (k : ℕ) (o : Option Book) → nth (s .books) k ≡ o �
 use-one s k None e h some = h some
 use-one s k (Some b) e h some = within (s .books) k b e
 
-stays-current : (s : Session) (l : Line) → Current s → Current (following s l)
-stays-current s Silent h = h
-stays-current s NotUnderstood h = h
-stays-current s (Asks (commands.Book n)) h = λ some. omega (arith, length-append (s .books) (new-book n ∷ []))
-stays-current s (Asks (commands.Use k)) h = use-one s k (nth (s .books) k) refl h
-stays-current s (Asks (commands.Call c)) h = λ some. let n = as-many (s .books) (s .current) c in omega (arith, h (omega arith))
+stays-current : (s : Session) (q : Request) → Current s → Current (following s q)
+stays-current s silent h = h
+stays-current s not-understood h = h
+stays-current s (asks (commands.Book n)) h = λ some. omega (arith, length-append (s .books) (new-book n ∷ []))
+stays-current s (asks (commands.Use k)) h = use-one s k (nth (s .books) k) refl h
+stays-current s (asks (commands.Call c)) h = λ some. let n = as-many (s .books) (s .current) c in omega (arith, h (omega arith))
+stays-current s (asks (commands.Step x)) h = h
+stays-current s (asks commands.Check) h = h
+stays-current s (append ns) h = h
 
 script-current : (s : Session) (ts : List Bytes) → Current s → Current (after-lines s ts)
 script-current s [] h = h
-script-current s (t ∷ ts) h = script-current (following s (read (without-ending t))) ts (stays-current s (read (without-ending t)) h)
+script-current s (t ∷ ts) h = script-current (following s (request (without-ending t))) ts (stays-current s (request (without-ending t)) h)
 
 pub always-current : Always-current
 always-current ts = script-current start ts (λ none. absurd (omega arith))
@@ -119,16 +126,19 @@ begun-well : (bs : List Book) (n : ℕ) → All-well bs → All-well (bs ++ new-
 begun-well [] n w = (starts-well, tt)
 begun-well (b ∷ bs) n w = (w .0, begun-well bs n (w .1))
 
-line-well : (s : Session) (l : Line) → All-well (s .books) → All-well (following s l .books)
-line-well s Silent w = w
-line-well s NotUnderstood w = w
-line-well s (Asks (commands.Book n)) w = begun-well (s .books) n w
-line-well s (Asks (commands.Use k)) w = w
-line-well s (Asks (commands.Call c)) w = called-well (s .books) (s .current) c w
+line-well : (s : Session) (q : Request) → All-well (s .books) → All-well (following s q .books)
+line-well s silent w = w
+line-well s not-understood w = w
+line-well s (asks (commands.Book n)) w = begun-well (s .books) n w
+line-well s (asks (commands.Use k)) w = w
+line-well s (asks (commands.Call c)) w = called-well (s .books) (s .current) c w
+line-well s (asks (commands.Step x)) w = w
+line-well s (asks commands.Check) w = w
+line-well s (append ns) w = w
 
 script-well : (s : Session) (ts : List Bytes) → All-well (s .books) → All-well (after-lines s ts .books)
 script-well s [] w = w
-script-well s (t ∷ ts) w = script-well (following s (read (without-ending t))) ts (line-well s (read (without-ending t)) w)
+script-well s (t ∷ ts) w = script-well (following s (request (without-ending t))) ts (line-well s (request (without-ending t)) w)
 
 one-well : (bs : List Book) (k : ℕ) (b : Book) → All-well bs → nth bs k ≡ Some b → WellFormed (b .vocabulary)
 one-well [] k b w e = let z : _≡_ {A = ℕ} 0 1 = cc in absurd (omega arith)

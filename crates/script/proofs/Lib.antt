@@ -5,3 +5,6 @@ pub mod Ending
 pub mod Shelved
 pub mod Writing
 pub mod Keeping
+pub mod Judging
+pub mod Requests
+pub mod Validity

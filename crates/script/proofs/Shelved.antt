@@ -1,6 +1,5 @@
 -- The books of a session in memory, and the list of books that the definitions speak of.
 use mathlib.Core.Path.{_≡_, refl, sym, ap, _∙_}
-use mathlib.Core.Bool.{Bool}
 use mathlib.Core.List.{List, [], _∷_, map}
 use Prim.Native.Nat.{ℕ, zero, suc, _≤_, _<_}
 use native.Mathlib.Omega.{arith}
@@ -13,10 +12,7 @@ use Rattle.std.proofs.shelf.Maps.{nth-getD, nth-past}
 use Rattle.script.specs.declared.book.Book as stored
 use Rattle.script.specs.declared.command.Call.{Call}
 use Rattle.script.specs.Books.{Book, model, after}
-use Rattle.script.specs.Sessions.{Session, called-at}
-
-abbrev pub session : List Book → ℕ → ℕ → Bool → Session
-session bs k n u = record { books = bs; current = k; lines = n; understood = u }
+use Rattle.script.specs.Sessions.{called-at}
 
 module _ (bs : List stored.Book) (k : ℕ) where
   pub here : (b : stored.Book) → k < length bs → b ≡ getD bs k b → nth (map model bs) k ≡ Some (model b)

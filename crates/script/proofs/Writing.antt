@@ -7,7 +7,7 @@ use native.Mathlib.Omega.{arith}
 use borrow.Author.Needs.{needs}
 use borrow.Author.Tests.{lt-ltb, ne-eqb}
 use lib.Dec.{eqb}
-use lib.ListN.{length}
+use lib.ListN.{length, length-map}
 use Rattle.std.specs.Options.{mapped}
 use Rattle.std.specs.Text.{asciiDigit}
 use Rattle.std.specs.Written.{decimal}
@@ -17,10 +17,10 @@ use Rattle.std.proofs.shelf.Numerals.{Numerals, numerals-by-fold, tells-allDigi
 use Rattle.std.proofs.shelf.Decimals.{decimal-some, digits-decimal, value-decimal}
 use Rattle.script.specs.declared.command.Call.the-variants as calls
 use Rattle.script.specs.declared.command.Command.the-variants as commands
-use Rattle.script.specs.declared.command.Line.the-variants.{Asks}
+use Rattle.script.specs.declared.command.CallVerb.the-variants.{Carrier, Product, Variable, Set, Formula, Free, Substitution}
 use Rattle.script.specs.declared.command.Verb.{Verb}
-use Rattle.script.specs.declared.command.Verb.the-variants.{Book, Use, Carrier, Product, Variable, Set, Formula, Free, Substitution}
-use Rattle.script.specs.Commands.{read, read-words, understood, of-verb, verb-named, text-of, word-of, spaced, bits, count, with-numbers, Within, Reads-back}
+use Rattle.script.specs.declared.command.Verb.the-variants.{Book, Use, Call, Step, Check}
+use Rattle.script.specs.Commands.{asks, request, request-words, understood, listed, of-verb, verb-named, is-list, list-word, text-of, word-of, spaced, bits, count, with-numbers, step-numbers, Within, Reads-back, Lists-read-back}
 use Rattle.script.specs.Words.{Bytes, words, lengthen, read-digits, bounded, number, numbers, both}
 use Rattle.script.proofs.Splitting.{chosen}
 
@@ -104,70 +104,88 @@ numbers-written bits (n ∷ ns) h s =
 some-word : (v : Verb) → 0 < length (word-of v)
 some-word Book = omega arith
 some-word Use = omega arith
-some-word Carrier = omega arith
-some-word Product = omega arith
-some-word Variable = omega arith
-some-word Set = omega arith
-some-word Formula = omega arith
-some-word Free = omega arith
-some-word Substitution = omega arith
+some-word (Call Carrier) = omega arith
+some-word (Call Product) = omega arith
+some-word (Call Variable) = omega arith
+some-word (Call Set) = omega arith
+some-word (Call Formula) = omega arith
+some-word (Call Free) = omega arith
+some-word (Call Substitution) = omega arith
+some-word Step = omega arith
+some-word Check = omega arith
 
 solid-word : (v : Verb) → Solid (word-of v)
 solid-word Book = search needs
 solid-word Use = search needs
-solid-word Carrier = search needs
-solid-word Product = search needs
-solid-word Variable = search needs
-solid-word Set = search needs
-solid-word Formula = search needs
-solid-word Free = search needs
-solid-word Substitution = search needs
+solid-word (Call Carrier) = search needs
+solid-word (Call Product) = search needs
+solid-word (Call Variable) = search needs
+solid-word (Call Set) = search needs
+solid-word (Call Formula) = search needs
+solid-word (Call Free) = search needs
+solid-word (Call Substitution) = search needs
+solid-word Step = search needs
+solid-word Check = search needs
 
-text-words : (v : Verb) (ns : List ℕ) → Small ns → words (text-of v ns) ≡ word-of v ∷ map decimal ns
-text-words v ns s = digits-then (word-of v) (spaced ns) (some-word v) (solid-word v) (spaced-apart ns) ∙ ap (λ l. word-of v ∷ l) (spaced-words ns s)
+text-words : (w : Bytes) (ns : List ℕ) → 0 < length w → Solid w → Small ns → words (w ++ spaced ns) ≡ w ∷ map decimal ns
+text-words w ns l h s = digits-then w (spaced ns) l h (spaced-apart ns) ∙ ap (λ ws. w ∷ ws) (spaced-words ns s)
 
-first-read : (v : Verb) (ns : List ℕ) → read (text-of v ns) ≡ read-words (words (text-of v ns))
+first-read : (v : Verb) (ns : List ℕ) → request (text-of v ns) ≡ request-words (words (text-of v ns))
 first-read Book ns = refl
 first-read Use ns = refl
-first-read Carrier ns = refl
-first-read Product ns = refl
-first-read Variable ns = refl
-first-read Set ns = refl
-first-read Formula ns = refl
-first-read Free ns = refl
-first-read Substitution ns = refl
+first-read (Call Carrier) ns = refl
+first-read (Call Product) ns = refl
+first-read (Call Variable) ns = refl
+first-read (Call Set) ns = refl
+first-read (Call Formula) ns = refl
+first-read (Call Free) ns = refl
+first-read (Call Substitution) ns = refl
+first-read Step ns = refl
+first-read Check ns = refl
+
+no-list : (v : Verb) → is-list (word-of v) ≡ false
+no-list Book = refl
+no-list Use = refl
+no-list (Call Carrier) = refl
+no-list (Call Product) = refl
+no-list (Call Variable) = refl
+no-list (Call Set) = refl
+no-list (Call Formula) = refl
+no-list (Call Free) = refl
+no-list (Call Substitution) = refl
+no-list Step = refl
+no-list Check = refl
 
 known : (v : Verb) → verb-named (word-of v) ≡ Some v
 known Book = refl
 known Use = refl
-known Carrier = refl
-known Product = refl
-known Variable = refl
-known Set = refl
-known Formula = refl
-known Free = refl
-known Substitution = refl
+known (Call Carrier) = refl
+known (Call Product) = refl
+known (Call Variable) = refl
+known (Call Set) = refl
+known (Call Formula) = refl
+known (Call Free) = refl
+known (Call Substitution) = refl
+known Step = refl
+known Check = refl
 
 few-bits : (v : Verb) → 2 ^ bits v ≤ 2 ^ 64
 few-bits Book = omega arith
 few-bits Use = omega arith
-few-bits Carrier = omega arith
-few-bits Product = omega arith
-few-bits Variable = omega arith
-few-bits Set = omega arith
-few-bits Formula = omega arith
-few-bits Free = omega arith
-few-bits Substitution = omega arith
+few-bits (Call v) = omega arith
+few-bits Step = omega arith
+few-bits Check = omega arith
 
 small : (k : ℕ) (ns : List ℕ) → 2 ^ k ≤ 2 ^ 64 → Within k ns → Small ns
 small k [] l h = tt
 small k (n ∷ ns) l h = (omega (arith, h .0), small k ns l (h .1))
 
-read-verb : (v : Verb) (ns : List ℕ) → length ns ≡ count v → Within (bits v) ns → read (text-of v ns) ≡ Asks (with-numbers v ns)
+read-verb : (v : Verb) (ns : List ℕ) → length ns ≡ count v → Within (bits v) ns → request (text-of v ns) ≡ asks (with-numbers v ns)
 read-verb v ns l h =
     let s = small (bits v) ns (few-bits v) h in
     first-read v ns
-    ∙ ap read-words (text-words v ns s)
+    ∙ ap request-words (text-words (word-of v) ns (some-word v) (solid-word v) s)
+    ∙ chosen _ false _ _ (no-list v)
     ∙ ap (λ o. understood (of-verb o (map decimal ns))) (known v)
     ∙ ap (λ k. understood (mapped (with-numbers v) (numbers (bits v) k (map decimal ns)))) (sym l)
     ∙ ap (λ r. understood (mapped (with-numbers v) r)) (numbers-written (bits v) ns h s)
@@ -175,10 +193,19 @@ read-verb v ns l h =
 pub reads-back : Reads-back
 reads-back (commands.Book n) h = read-verb Book (n ∷ []) refl h
 reads-back (commands.Use k) h = read-verb Use (k ∷ []) refl h
-reads-back (commands.Call calls.Carrier) h = read-verb Carrier [] refl h
-reads-back (commands.Call (calls.Product s t)) h = read-verb Product (s ∷ t ∷ []) refl h
-reads-back (commands.Call (calls.Variable t)) h = read-verb Variable (t ∷ []) refl h
-reads-back (commands.Call (calls.Set t)) h = read-verb Set (t ∷ []) refl h
-reads-back (commands.Call (calls.Formula k p q)) h = read-verb Formula (k ∷ p ∷ q ∷ []) refl h
-reads-back (commands.Call (calls.Free x n)) h = read-verb Free (x ∷ n ∷ []) refl h
-reads-back (commands.Call (calls.Substitution q p x e)) h = read-verb Substitution (q ∷ p ∷ x ∷ e ∷ []) refl h
+reads-back (commands.Call calls.Carrier) h = read-verb (Call Carrier) [] refl h
+reads-back (commands.Call (calls.Product s t)) h = read-verb (Call Product) (s ∷ t ∷ []) refl h
+reads-back (commands.Call (calls.Variable t)) h = read-verb (Call Variable) (t ∷ []) refl h
+reads-back (commands.Call (calls.Set t)) h = read-verb (Call Set) (t ∷ []) refl h
+reads-back (commands.Call (calls.Formula k p q)) h = read-verb (Call Formula) (k ∷ p ∷ q ∷ []) refl h
+reads-back (commands.Call (calls.Free x n)) h = read-verb (Call Free) (x ∷ n ∷ []) refl h
+reads-back (commands.Call (calls.Substitution q p x e)) h = read-verb (Call Substitution) (q ∷ p ∷ x ∷ e ∷ []) refl h
+reads-back (commands.Step x) h = read-verb Step (step-numbers x) refl h
+reads-back commands.Check h = read-verb Check [] refl h
+
+pub lists-read-back : Lists-read-back
+lists-read-back ns h =
+    let s = small 16 ns (omega arith) h in
+    ap request-words (text-words list-word ns (omega arith) (search needs) s)
+    ∙ ap (λ k. listed (numbers 16 k (map decimal ns))) (length-map ns decimal)
+    ∙ ap listed (numbers-written 16 ns h s)

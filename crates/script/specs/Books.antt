@@ -1,6 +1,7 @@
 -- A book, and what it answers.
 use mathlib.Core.Bool.{Bool, true, false}
-use mathlib.Core.Logic.{_⊎_}
+use mathlib.Core.List.{List}
+use mathlib.Core.Logic.{_⊎_, _↔_}
 use mathlib.Core.Path.{_≡_}
 use Prim.Native.Nat.{ℕ}
 use lib.Dec.{T}
@@ -13,13 +14,19 @@ use Rattle.formulas.specs.declared.refusals.Refusal.{Refusal}
 use Rattle.formulas.specs.Refusals.{notice}
 use Rattle.vocabulary.specs.Calls.{new-carrier, product, new-variable, new-set-name, enter-formula}
 use Rattle.vocabulary.specs.View as view
+use Rattle.calculus.specs.declared.refusal.Refusal as faults
+use Rattle.calculus.specs.declared.sequent.Sequent.{Sequent}
+use Rattle.calculus.specs.declared.step.Step.{Step}
+use Rattle.calculus.specs.Derivations.{RightDerivation, FirstFault}
+use Rattle.calculus.specs.Refusals as derivation
+use Rattle.rules.specs.Theories.{standard}
 use Rattle.script.specs.declared.book.Book as stored
 use Rattle.script.specs.declared.command.Call.{Call}
 use Rattle.script.specs.declared.command.Call.the-variants.{Carrier, Product, Variable, Set, Formula, Free, Substitution}
 use Rattle.script.specs.declared.reply.Thing.{Thing}
 use Rattle.script.specs.declared.reply.Thing.the-variants as things
 use Rattle.script.specs.declared.reply.Reply.{Reply}
-use Rattle.script.specs.declared.reply.Reply.the-variants.{Numbered, Yes, No, Refused}
+use Rattle.script.specs.declared.reply.Reply.the-variants.{Numbered, Yes, No, Right, Refused}
 
 pub record Book : Type 0 where
   pub number : ℕ
@@ -67,3 +74,13 @@ after b (Set t) = with-vocabulary b (new-set-name (b .vocabulary) t .after)
 after b (Formula k p q) = with-vocabulary b (enter-formula (b .vocabulary) k p q .after)
 after b (Free x n) = b
 after b (Substitution q p x e) = b
+
+abbrev pub verdict : Result Sequent faults.Refusal → Reply
+verdict (Ok s) = Right
+verdict (Err e) = Refused (derivation.notice e)
+
+-- r is the verdict on a derivation: `right` exactly where it is right, else a refusal, exactly with its first fault
+pub record Verdict (b : Book) (xs : List Step) (hs : List ℕ) (r : Reply) : Type 0 where
+  pub either : (r ≡ Right) ⊎ ((e : faults.Refusal) × (r ≡ Refused (derivation.notice e)))
+  pub right : (r ≡ Right) ↔ RightDerivation standard (b .vocabulary) xs hs
+  pub refused : (e : faults.Refusal) → (r ≡ Refused (derivation.notice e)) ↔ FirstFault e standard (b .vocabulary) xs hs

@@ -11,30 +11,55 @@ use Rattle.std.specs.Written.{decimal}
 use Rattle.std.specs.shelf.Text.{sameBytes}
 use Rattle.std.specs.declared.option.Option.{Option}
 use Rattle.std.specs.declared.option.Option.the-variants.{Some, None}
+use Rattle.calculus.specs.declared.step.Step.{Step}
 use Rattle.script.specs.declared.command.Call.{Call}
 use Rattle.script.specs.declared.command.Call.the-variants as calls
+use Rattle.script.specs.declared.command.CallVerb.{CallVerb}
+use Rattle.script.specs.declared.command.CallVerb.the-variants.{Carrier, Product, Variable, Set, Formula, Free, Substitution}
 use Rattle.script.specs.declared.command.Command.{Command}
 use Rattle.script.specs.declared.command.Command.the-variants as commands
 use Rattle.script.specs.declared.command.Line.{Line}
-use Rattle.script.specs.declared.command.Line.the-variants.{Silent, NotUnderstood, Asks}
+use Rattle.script.specs.declared.command.Line.the-variants as lines
 use Rattle.script.specs.declared.command.Verb.{Verb}
-use Rattle.script.specs.declared.command.Verb.the-variants.{Book, Use, Carrier, Product, Variable, Set, Formula, Free, Substitution}
-use Rattle.script.specs.Words.{Bytes, words, numbers}
+use Rattle.script.specs.declared.command.Verb.the-variants as verb
+use Rattle.script.specs.Words.{Bytes, words, numbers, all-numbers}
 
--- the word of each command
+-- what a line asks: nothing, what cannot be understood, a command, or numbers to append to the hypotheses
+pub data Request : Type 0 where
+  silent : Request
+  not-understood : Request
+  asks : Command → Request
+  append : List ℕ → Request
+
+-- the same, the numbers left out
+abbrev pub line-of : Request → Line
+line-of silent = lines.Silent
+line-of not-understood = lines.NotUnderstood
+line-of (asks c) = lines.Asks c
+line-of (append ns) = lines.Hypotheses
+
+-- the word of each call, and of each command
+abbrev pub call-word : CallVerb → Bytes
+call-word Carrier = codes "carrier"
+call-word Product = codes "product"
+call-word Variable = codes "variable"
+call-word Set = codes "set"
+call-word Formula = codes "formula"
+call-word Free = codes "free"
+call-word Substitution = codes "substitution"
+
 abbrev pub word-of : Verb → Bytes
-word-of Book = codes "book"
-word-of Use = codes "use"
-word-of Carrier = codes "carrier"
-word-of Product = codes "product"
-word-of Variable = codes "variable"
-word-of Set = codes "set"
-word-of Formula = codes "formula"
-word-of Free = codes "free"
-word-of Substitution = codes "substitution"
+word-of verb.Book = codes "book"
+word-of verb.Use = codes "use"
+word-of (verb.Call v) = call-word v
+word-of verb.Step = codes "step"
+word-of verb.Check = codes "check"
 
 abbrev pub verbs : List Verb
-verbs = Book ∷ Use ∷ Carrier ∷ Product ∷ Variable ∷ Set ∷ Formula ∷ Free ∷ Substitution ∷ []
+verbs =
+    verb.Book ∷ verb.Use
+    ∷ verb.Call Carrier ∷ verb.Call Product ∷ verb.Call Variable ∷ verb.Call Set ∷ verb.Call Formula ∷ verb.Call Free ∷ verb.Call Substitution
+    ∷ verb.Step ∷ verb.Check ∷ []
 
 abbrev pub one-named : Bytes → List Verb → Option Verb
 one-named w [] = None
@@ -43,44 +68,70 @@ one-named w (v ∷ vs) = cond (sameBytes w (word-of v)) (Some v) (one-named w vs
 abbrev pub verb-named : Bytes → Option Verb
 verb-named w = one-named w verbs
 
--- how many numbers a command takes
+-- how many numbers a call takes, and a command
+abbrev pub call-count : CallVerb → ℕ
+call-count Carrier = 0
+call-count Product = 2
+call-count Variable = 1
+call-count Set = 1
+call-count Formula = 3
+call-count Free = 2
+call-count Substitution = 4
+
 abbrev pub count : Verb → ℕ
-count Book = 1
-count Use = 1
-count Carrier = 0
-count Product = 2
-count Variable = 1
-count Set = 1
-count Formula = 3
-count Free = 2
-count Substitution = 4
+count verb.Book = 1
+count verb.Use = 1
+count (verb.Call v) = call-count v
+count verb.Step = 9
+count verb.Check = 0
 
 -- how many bits each of them has
 abbrev pub bits : Verb → ℕ
-bits Book = 32
-bits Use = 16
-bits Carrier = 16
-bits Product = 16
-bits Variable = 16
-bits Set = 16
-bits Formula = 16
-bits Free = 16
-bits Substitution = 16
+bits verb.Book = 32
+bits verb.Use = 16
+bits (verb.Call v) = 16
+bits verb.Step = 16
+bits verb.Check = 16
 
 abbrev at : List ℕ → ℕ → ℕ
 at ns i = getD ns i 0
 
--- the command with its numbers
+-- the call with its numbers, the step, and the command
+abbrev pub call-with : CallVerb → List ℕ → Call
+call-with Carrier ns = calls.Carrier
+call-with Product ns = calls.Product (at ns 0) (at ns 1)
+call-with Variable ns = calls.Variable (at ns 0)
+call-with Set ns = calls.Set (at ns 0)
+call-with Formula ns = calls.Formula (at ns 0) (at ns 1) (at ns 2)
+call-with Free ns = calls.Free (at ns 0) (at ns 1)
+call-with Substitution ns = calls.Substitution (at ns 0) (at ns 1) (at ns 2) (at ns 3)
+
+abbrev pub step-with : List ℕ → Step
+step-with ns =
+    record {
+      rule = at ns 0;
+      goal = at ns 1;
+      start = at ns 2;
+      count = at ns 3;
+      first = at ns 4;
+      second = at ns 5;
+      a = at ns 6;
+      b = at ns 7;
+      c = at ns 8;
+    }
+
 abbrev pub with-numbers : Verb → List ℕ → Command
-with-numbers Book ns = commands.Book (at ns 0)
-with-numbers Use ns = commands.Use (at ns 0)
-with-numbers Carrier ns = commands.Call calls.Carrier
-with-numbers Product ns = commands.Call (calls.Product (at ns 0) (at ns 1))
-with-numbers Variable ns = commands.Call (calls.Variable (at ns 0))
-with-numbers Set ns = commands.Call (calls.Set (at ns 0))
-with-numbers Formula ns = commands.Call (calls.Formula (at ns 0) (at ns 1) (at ns 2))
-with-numbers Free ns = commands.Call (calls.Free (at ns 0) (at ns 1))
-with-numbers Substitution ns = commands.Call (calls.Substitution (at ns 0) (at ns 1) (at ns 2) (at ns 3))
+with-numbers verb.Book ns = commands.Book (at ns 0)
+with-numbers verb.Use ns = commands.Use (at ns 0)
+with-numbers (verb.Call v) ns = commands.Call (call-with v ns)
+with-numbers verb.Step ns = commands.Step (step-with ns)
+with-numbers verb.Check ns = commands.Check
+
+abbrev pub call-of : CallVerb → List Bytes → Option Call
+call-of v ws = mapped (call-with v) (numbers 16 (call-count v) ws)
+
+abbrev pub step-of : List Bytes → Option Step
+step-of ws = mapped step-with (numbers 16 9 ws)
 
 abbrev pub command-of : Verb → List Bytes → Option Command
 command-of v ws = mapped (with-numbers v) (numbers (bits v) (count v) ws)
@@ -96,18 +147,29 @@ of-verb (Some v) ws = command-of v ws
 abbrev pub command : Bytes → List Bytes → Option Command
 command w ws = of-verb (verb-named w) ws
 
-abbrev pub understood : Option Command → Line
-understood None = NotUnderstood
-understood (Some c) = Asks c
+abbrev pub understood : Option Command → Request
+understood None = not-understood
+understood (Some c) = asks c
 
-abbrev pub read-words : List Bytes → Line
-read-words [] = Silent
-read-words (w ∷ ws) = understood (command w ws)
+-- the word of a list of hypotheses
+abbrev pub list-word : Bytes
+list-word = codes "hypotheses"
 
--- a comment begins with '#'
-abbrev pub read : Bytes → Line
-read [] = Silent
-read (b ∷ bs) = cond (eqb b 35) Silent (read-words (words (b ∷ bs)))
+abbrev pub is-list : Bytes → Bool
+is-list w = sameBytes w list-word
+
+abbrev pub listed : Option (List ℕ) → Request
+listed None = not-understood
+listed (Some ns) = append ns
+
+abbrev pub request-words : List Bytes → Request
+request-words [] = silent
+request-words (w ∷ ws) = cond (is-list w) (listed (all-numbers ws)) (understood (command w ws))
+
+-- what a line asks; a comment begins with '#'
+abbrev pub request : Bytes → Request
+request [] = silent
+request (b ∷ bs) = cond (eqb b 35) silent (request-words (words (b ∷ bs)))
 
 abbrev pub is-ending : Bytes → Bool
 is-ending bs = sameBytes bs (10 ∷ []) || sameBytes bs (13 ∷ 10 ∷ [])
@@ -127,7 +189,7 @@ abbrev pub text-of : Verb → List ℕ → Bytes
 text-of v ns = word-of v ++ spaced ns
 
 -- the verb of a call or a command, and its numbers
-abbrev pub call-verb : Call → Verb
+abbrev pub call-verb : Call → CallVerb
 call-verb calls.Carrier = Carrier
 call-verb (calls.Product s t) = Product
 call-verb (calls.Variable t) = Variable
@@ -145,22 +207,33 @@ call-numbers (calls.Formula k p q) = k ∷ p ∷ q ∷ []
 call-numbers (calls.Free x n) = x ∷ n ∷ []
 call-numbers (calls.Substitution q p x e) = q ∷ p ∷ x ∷ e ∷ []
 
+abbrev pub step-numbers : Step → List ℕ
+step-numbers x = x .rule ∷ x .goal ∷ x .start ∷ x .count ∷ x .first ∷ x .second ∷ x .a ∷ x .b ∷ x .c ∷ []
+
 abbrev pub verb-of : Command → Verb
-verb-of (commands.Book n) = Book
-verb-of (commands.Use k) = Use
-verb-of (commands.Call c) = call-verb c
+verb-of (commands.Book n) = verb.Book
+verb-of (commands.Use k) = verb.Use
+verb-of (commands.Call c) = verb.Call (call-verb c)
+verb-of (commands.Step x) = verb.Step
+verb-of commands.Check = verb.Check
 
 abbrev pub numbers-of : Command → List ℕ
 numbers-of (commands.Book n) = n ∷ []
 numbers-of (commands.Use k) = k ∷ []
 numbers-of (commands.Call c) = call-numbers c
+numbers-of (commands.Step x) = step-numbers x
+numbers-of commands.Check = []
 
 -- the line that asks for a call, and for a command
 abbrev pub call-text : Call → Bytes
-call-text c = text-of (call-verb c) (call-numbers c)
+call-text c = call-word (call-verb c) ++ spaced (call-numbers c)
 
 abbrev pub command-text : Command → Bytes
 command-text c = text-of (verb-of c) (numbers-of c)
+
+-- the line that appends numbers
+abbrev pub list-text : List ℕ → Bytes
+list-text ns = list-word ++ spaced ns
 
 -- numbers of so many bits
 abbrev pub Within : ℕ → List ℕ → Type 0
@@ -169,4 +242,8 @@ Within k (n ∷ ns) = (n < 2 ^ k) × Within k ns
 
 -- the line that asks for a command, read, asks for that command
 abbrev pub Reads-back : Type 0
-Reads-back = (c : Command) → Within (bits (verb-of c)) (numbers-of c) → read (command-text c) ≡ Asks c
+Reads-back = (c : Command) → Within (bits (verb-of c)) (numbers-of c) → request (command-text c) ≡ asks c
+
+-- and so for a list of numbers
+abbrev pub Lists-read-back : Type 0
+Lists-read-back = (ns : List ℕ) → Within 16 ns → request (list-text ns) ≡ append ns

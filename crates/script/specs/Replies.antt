@@ -8,7 +8,7 @@ use Rattle.formulas.specs.declared.refusals.Notice.{Notice}
 use Rattle.script.specs.declared.reply.Thing.{Thing}
 use Rattle.script.specs.declared.reply.Thing.the-variants as things
 use Rattle.script.specs.declared.reply.Reply.{Reply}
-use Rattle.script.specs.declared.reply.Reply.the-variants.{Book, NoSuchBook, Numbered, Yes, No, Refused, NotUnderstood}
+use Rattle.script.specs.declared.reply.Reply.the-variants.{Book, NoSuchBook, Numbered, Yes, No, Right, Refused, NotUnderstood}
 use Rattle.script.specs.Words.{Bytes}
 
 abbrev pub layer-text : Layer → Bytes
@@ -28,5 +28,6 @@ reply-text NoSuchBook = codes "no such book"
 reply-text (Numbered t n) = thing-text t ++ (codes " " ++ decimal n)
 reply-text Yes = codes "yes"
 reply-text No = codes "no"
+reply-text Right = codes "right"
 reply-text (Refused r) = codes "refused " ++ (decimal (r .number) ++ (codes " " ++ (layer-text (r .layer) ++ (codes " " ++ decimal (r .place)))))
 reply-text (NotUnderstood l) = codes "line " ++ (decimal l ++ codes ": not understood")

@@ -3,6 +3,7 @@ use mathlib.Core.Bool.{cond}
 use mathlib.Core.List.{List, [], _∷_}
 use Prim.Native.Nat.{ℕ, zero, suc, _+_, _-_, _*_, _^_}
 use lib.Dec.{eqb, ltb}
+use lib.ListN.{length}
 use Rattle.std.specs.Text.{asciiDigit}
 use Rattle.std.specs.declared.option.Option.{Option}
 use Rattle.std.specs.declared.option.Option.the-variants.{Some, None}
@@ -61,3 +62,7 @@ numbers bits zero [] = Some []
 numbers bits zero (w ∷ ws) = None
 numbers bits (suc k) [] = None
 numbers bits (suc k) (w ∷ ws) = both (number bits w) (numbers bits k ws)
+
+-- the numbers of 16 bits that words write, if each writes one
+abbrev pub all-numbers : List Bytes → Option (List ℕ)
+all-numbers ws = numbers 16 (length ws) ws

@@ -1,12 +1,21 @@
 // A book: its number and its vocabulary.
 ghost use mathlib.Core.Path.{_≡_};
 ghost use Rattle.std.specs.Vec.{made};
-ghost use Rattle.script.specs.Books.{model, new-book, granted, said, Answers, after};
+ghost use Rattle.script.specs.Books.{model, new-book, granted, said, Answers, after, verdict, Verdict};
 use crate::command::Call;
 use crate::reply::Reply;
 use crate::reply::Thing;
+use calculus::JoinedTheory;
+use calculus::Refusal as Fault;
+use calculus::Sequent;
+use calculus::Step;
+use calculus::check;
 use formulas::calls::Call as Entering;
 use formulas::refusals::Refusal;
+use rules::standard::standard_theory;
+use rules::theories::EqualityTheory;
+use rules::theories::PropositionsTheory;
+use rules::theories::QuantifiersTheory;
 use std::alloc::AllocError;
 use std::alloc::Global;
 use vocabulary::store::Vocabulary;
@@ -50,6 +59,24 @@ impl Book {
             Call::Free(x, n) => said(v.is_free(x, n)),
             Call::Substitution(q, p, x, e) => said(v.is_substitution(q, p, x, e)),
         }
+    }
+
+    // Judges a derivation in the book's vocabulary, by the three built theories joined.
+    pub fn judge(&self, steps: &[Step], hypotheses: &[u16]) -> Reply
+        ensures { λ r. ⌜ Verdict (model (now (self .entry))) (now (steps .entry)) (now (hypotheses .entry)) r ⌝ }
+    {
+        let theory = standard_theory();
+        verdict(check(&theory, &self.vocabulary, steps, hypotheses))
+    }
+}
+
+// A derivation is right, or was refused.
+fn verdict(answer: Result<Sequent, Fault>) -> Reply
+    ensures { λ r. ⌜ r ≡ verdict answer ⌝ }
+{
+    match answer {
+        Ok(_) => Reply::Right,
+        Err(refusal) => Reply::Refused(refusal.notice()),
     }
 }
 

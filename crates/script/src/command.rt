@@ -1,11 +1,15 @@
 // What a line of a script asks: a word, and then numbers in decimal, with spaces between them.
 ghost use mathlib.Core.Path.{_≡_};
 ghost use Rattle.std.specs.declared.option.Option.the-variants.{Some};
-ghost use Rattle.script.specs.Words.{words};
-ghost use Rattle.script.specs.Commands.{word-of, verb-named, command, only-number, command-of, without-ending, read, call-text, command-text};
+ghost use Rattle.script.specs.Words.{words, all-numbers};
+ghost use Rattle.script.specs.Commands.{call-word, word-of, verb-named, command, only-number, call-of, step-of, command-of, is-list, listed, without-ending, request, line-of, call-text, command-text};
+use crate::words::are_numbers;
 use crate::words::next_word;
 use crate::words::number;
 use crate::words::numbers;
+use calculus::Step;
+use calculus::step::StepDebug;
+use calculus::step::StepPartialEq;
 use std::fmt;
 
 // A call on the current book, or a question to it.
@@ -25,20 +29,22 @@ pub enum Command {
     Book(u32),
     Use(u16),
     Call(Call),
+    Step(Step),
+    Check,
 }
 
+// What a line asks. A line of hypotheses is read for its numbers when they are appended.
 #[derive(Clone, Copy, PartialEq, Eq, Debug)]
 pub enum Line {
     Silent,
     NotUnderstood,
     Asks(Command),
+    Hypotheses,
 }
 
-// The word that a command begins with.
+// The word that a call begins with.
 #[derive(Clone, Copy)]
-enum Verb {
-    Book,
-    Use,
+enum CallVerb {
     Carrier,
     Product,
     Variable,
@@ -46,6 +52,16 @@ enum Verb {
     Formula,
     Free,
     Substitution,
+}
+
+// The word that a command begins with.
+#[derive(Clone, Copy)]
+enum Verb {
+    Book,
+    Use,
+    Call(CallVerb),
+    Step,
+    Check,
 }
 
 pub impl fmt::Display for Call as CallDisplay {
@@ -72,21 +88,82 @@ pub impl fmt::Display for Command as CommandDisplay {
             Command::Book(number) => write!(f, "book {number}"),
             Command::Use(k) => write!(f, "use {k}"),
             Command::Call(call) => write!(f, "{call}"),
+            Command::Step(s) => write!(
+                f,
+                "step {} {} {} {} {} {} {} {} {}",
+                s.rule, s.goal, s.start, s.count, s.first, s.second, s.a, s.b, s.c
+            ),
+            Command::Check => f.write_str("check"),
         }
     }
 }
 
+impl CallVerb {
+    fn word(self) -> &'static [u8]
+        ensures { λ r. ⌜ now r ≡ call-word self ⌝ }
+    {
+        match self {
+            CallVerb::Carrier => b"carrier",
+            CallVerb::Product => b"product",
+            CallVerb::Variable => b"variable",
+            CallVerb::Set => b"set",
+            CallVerb::Formula => b"formula",
+            CallVerb::Free => b"free",
+            CallVerb::Substitution => b"substitution",
+        }
+    }
+
+    // The call that a verb makes with the numbers after it.
+    fn call(self, text: &[u8]) -> Option<Call>
+        ensures { λ r. ⌜ r ≡ call-of self (words (now (text .entry))) ⌝ }
+    {
+        let call = match self {
+            CallVerb::Carrier => {
+                let [] = numbers::<0>(text)?;
+                Call::Carrier
+            }
+            CallVerb::Product => {
+                let [s, t] = numbers::<2>(text)?;
+                Call::Product(s, t)
+            }
+            CallVerb::Variable => {
+                let [t] = numbers::<1>(text)?;
+                Call::Variable(t)
+            }
+            CallVerb::Set => {
+                let [t] = numbers::<1>(text)?;
+                Call::Set(t)
+            }
+            CallVerb::Formula => {
+                let [kind, a, b] = numbers::<3>(text)?;
+                Call::Formula(kind, a, b)
+            }
+            CallVerb::Free => {
+                let [x, n] = numbers::<2>(text)?;
+                Call::Free(x, n)
+            }
+            CallVerb::Substitution => {
+                let [q, p, x, e] = numbers::<4>(text)?;
+                Call::Substitution(q, p, x, e)
+            }
+        };
+        Some(call)
+    }
+}
+
 impl Verb {
-    const ALL: [Verb; 9] = [
+    const ALL: [Verb; 11] = [
         Verb::Book,
         Verb::Use,
-        Verb::Carrier,
-        Verb::Product,
-        Verb::Variable,
-        Verb::Set,
-        Verb::Formula,
-        Verb::Free,
-        Verb::Substitution,
+        Verb::Call(CallVerb::Carrier),
+        Verb::Call(CallVerb::Product),
+        Verb::Call(CallVerb::Variable),
+        Verb::Call(CallVerb::Set),
+        Verb::Call(CallVerb::Formula),
+        Verb::Call(CallVerb::Free),
+        Verb::Call(CallVerb::Substitution),
+        Verb::Step,
+        Verb::Check,
     ];
 
     fn word(self) -> &'static [u8]
@@ -95,13 +172,9 @@ impl Verb {
         match self {
             Verb::Book => b"book",
             Verb::Use => b"use",
-            Verb::Carrier => b"carrier",
-            Verb::Product => b"product",
-            Verb::Variable => b"variable",
-            Verb::Set => b"set",
-            Verb::Formula => b"formula",
-            Verb::Free => b"free",
-            Verb::Substitution => b"substitution",
+            Verb::Call(verb) => verb.word(),
+            Verb::Step => b"step",
+            Verb::Check => b"check",
         }
     }
 
@@ -121,40 +194,39 @@ impl Verb {
     fn command(self, text: &[u8]) -> Option<Command>
         ensures { λ r. ⌜ r ≡ command-of self (words (now (text .entry))) ⌝ }
     {
-        let call = match self {
-            Verb::Book => return Some(Command::Book(only_number(text)?)),
-            Verb::Use => return Some(Command::Use(numbers::<1>(text)?[0])),
-            Verb::Carrier => {
+        let command = match self {
+            Verb::Book => Command::Book(only_number(text)?),
+            Verb::Use => {
+                let [k] = numbers::<1>(text)?;
+                Command::Use(k)
+            }
+            Verb::Call(verb) => Command::Call(verb.call(text)?),
+            Verb::Step => Command::Step(read_step(text)?),
+            Verb::Check => {
                 let [] = numbers::<0>(text)?;
-                Call::Carrier
-            }
-            Verb::Product => {
-                let [s, t] = numbers::<2>(text)?;
-                Call::Product(s, t)
-            }
-            Verb::Variable => {
-                let [t] = numbers::<1>(text)?;
-                Call::Variable(t)
-            }
-            Verb::Set => {
-                let [t] = numbers::<1>(text)?;
-                Call::Set(t)
-            }
-            Verb::Formula => {
-                let [kind, a, b] = numbers::<3>(text)?;
-                Call::Formula(kind, a, b)
-            }
-            Verb::Free => {
-                let [x, n] = numbers::<2>(text)?;
-                Call::Free(x, n)
-            }
-            Verb::Substitution => {
-                let [q, p, x, e] = numbers::<4>(text)?;
-                Call::Substitution(q, p, x, e)
+                Command::Check
             }
         };
-        Some(Command::Call(call))
+        Some(command)
     }
+}
+
+// The step that a text of nine numbers writes.
+fn read_step(text: &[u8]) -> Option<Step>
+    ensures { λ r. ⌜ r ≡ step-of (words (now (text .entry))) ⌝ }
+{
+    let [rule, goal, start, count, first, second, a, b, c] = numbers::<9>(text)?;
+    Some(Step {
+        rule,
+        goal,
+        start,
+        count,
+        first,
+        second,
+        a,
+        b,
+        c,
+    })
 }
 
 // The number of a text that has one word, a number of 32 bits.
@@ -188,9 +260,27 @@ pub(crate) fn without_ending(line: &[u8]) -> &[u8]
     }
 }
 
+// Whether a line that begins with this word is one of hypotheses.
+fn is_list(word: &[u8]) -> bool
+    ensures { λ r. ⌜ r ≡ is-list (now (word .entry)) ⌝ }
+{
+    word == b"hypotheses".as_slice()
+}
+
+// What a line of hypotheses asks, its first word left out.
+fn read_list(text: &[u8]) -> Line
+    ensures { λ r. ⌜ r ≡ line-of (listed (all-numbers (words (now (text .entry))))) ⌝ }
+{
+    if are_numbers(text) {
+        Line::Hypotheses
+    } else {
+        Line::NotUnderstood
+    }
+}
+
 // What a line asks, its ending left out. A comment begins with '#', before any space.
 pub fn read_line(line: &[u8]) -> Line
-    ensures { λ r. ⌜ r ≡ read (now (line .entry)) ⌝ }
+    ensures { λ r. ⌜ r ≡ line-of (request (now (line .entry))) ⌝ }
 {
     if let [b'#', ..] = line {
         return Line::Silent;
@@ -198,6 +288,9 @@ pub fn read_line(line: &[u8]) -> Line
     let Some((word, rest)) = next_word(line) else {
         return Line::Silent;
     };
+    if is_list(word) {
+        return read_list(rest);
+    }
     match read_command(word, rest) {
         Some(command) => Line::Asks(command),
         None => Line::NotUnderstood,

@@ -1,9 +1,15 @@
 // What holds of every line and every script.
-ghost use Rattle.script.specs.Commands.{Reads-back};
-ghost use Rattle.script.specs.Sessions.{Others-stay, Numbers-stay, Always-current, Always-well-formed};
+ghost use Rattle.script.specs.Commands.{Reads-back, Lists-read-back};
+ghost use Rattle.script.specs.Sessions.{Others-stay, Numbers-stay, Always-current, Always-well-formed, Right-is-valid};
 
 pub fn reads_back() -> u8
     ensures { λ _. ⌜ Reads-back ⌝ }
+{
+    0
+}
+
+pub fn lists_read_back() -> u8
+    ensures { λ _. ⌜ Lists-read-back ⌝ }
 {
     0
 }
@@ -28,6 +34,12 @@ pub fn always_current() -> u8
 
 pub fn always_well_formed() -> u8
     ensures { λ _. ⌜ Always-well-formed ⌝ }
+{
+    0
+}
+
+pub fn right_is_valid() -> u8
+    ensures { λ _. ⌜ Right-is-valid ⌝ }
 {
     0
 }

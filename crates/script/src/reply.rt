@@ -24,6 +24,7 @@ pub enum Reply {
     Numbered(Thing, u16),
     Yes,
     No,
+    Right,
     Refused(Notice),
     NotUnderstood(u64),
 }
@@ -61,6 +62,7 @@ pub impl fmt::Display for Reply as ReplyDisplay {
             Reply::Numbered(thing, n) => write!(f, "{thing} {n}"),
             Reply::Yes => f.write_str("yes"),
             Reply::No => f.write_str("no"),
+            Reply::Right => f.write_str("right"),
             Reply::Refused(notice) => {
                 let number = notice.number;
                 let layer = layer_text(notice.layer);

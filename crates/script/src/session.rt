@@ -1,8 +1,10 @@
-// A script as it is run: the books begun so far, and the one that calls go to.
+// A script as it is run: the books begun so far, the one that calls go to, and the derivation that is being written.
+ghost use mathlib.Core.List.{List, []};
 ghost use mathlib.Core.Path.{_≡_};
+ghost use Prim.Native.Nat.{ℕ};
 ghost use Rattle.std.specs.Vec.{made, refused};
-ghost use Rattle.script.specs.Commands.{without-ending, read};
-ghost use Rattle.script.specs.Sessions.{model, start, Replies, done, Answered, used, Passed, following};
+ghost use Rattle.script.specs.Commands.{without-ending, request, append};
+ghost use Rattle.script.specs.Sessions.{model, start, Replies, done, Answered, used, Passed, Tried, with-derivation, appended, misread, following};
 use crate::book::Book;
 use crate::command::Call;
 use crate::command::Command;
@@ -10,6 +12,9 @@ use crate::command::Line;
 use crate::command::read_line;
 use crate::command::without_ending;
 use crate::reply::Reply;
+use crate::words::all_numbers;
+use crate::words::next_word;
+use calculus::Step;
 use std::alloc::AllocError;
 use std::alloc::Global;
 
@@ -18,6 +23,8 @@ pub struct Session {
     heap: Global,
     books: Vec<Book>,
     current: usize,
+    steps: Vec<Step>,
+    hypotheses: Vec<u16>,
     lines: u64,
     understood: bool,
 }
@@ -30,6 +37,8 @@ impl Session {
             heap,
             books: Vec::new(heap),
             current: 0,
+            steps: Vec::new(heap),
+            hypotheses: Vec::new(heap),
             lines: 0,
             understood: true,
         }
@@ -80,33 +89,93 @@ impl Session {
         }
     }
 
-    // Only a new book can want for memory, and is then not begun.
-    pub fn run(&mut self, command: Command) -> Result<Reply, AllocError>
+    // Adds a step to the derivation.
+    fn add(&mut self, step: Step) -> Result<(), AllocError>
+        ensures after { λ r. ⌜ made r (λ _. model (now (self .exit)) ≡ done (model (now (self .entry))) (Command.Step step)) ⌝ }
+        ensures refused { λ r. ⌜ refused r (λ _. model (now (self .exit)) ≡ model (now (self .entry))) ⌝ }
+    {
+        self.steps.push(step)?;
+        Ok(())
+    }
+
+    // Begins a new derivation.
+    fn clear(&mut self)
+        ensures { λ _. ⌜ model (now (self .exit)) ≡ with-derivation (model (now (self .entry))) [] [] ⌝ }
+    {
+        self.steps.clear();
+        self.hypotheses.clear();
+    }
+
+    // Judges the derivation in the current book, and begins a new one.
+    fn check(&mut self) -> Reply
+        ensures answer { λ r. ⌜ Tried (model (now (self .entry))) r ⌝ }
+        ensures after { λ _. ⌜ model (now (self .exit)) ≡ done (model (now (self .entry))) Command.Check ⌝ }
+    {
+        let Some(book) = self.books.get(self.current) else {
+            return Reply::NoSuchBook;
+        };
+        let reply = book.judge(self.steps.as_slice(), self.hypotheses.as_slice());
+        self.clear();
+        reply
+    }
+
+    // Appends the numbers of a line of hypotheses.
+    fn append(&mut self, line: &[u8]) -> Result<(), AllocError>
+        ensures after { λ r. ⌜ made r (λ _. (ns : List ℕ) → request (now (line .entry)) ≡ append ns → model (now (self .exit)) ≡ appended (model (now (self .entry))) ns) ⌝ }
+        ensures refused { λ r. ⌜ refused r (λ _. model (now (self .exit)) ≡ model (now (self .entry))) ⌝ }
+    {
+        let Some((_, text)) = next_word(line) else {
+            return Ok(());
+        };
+        if let Some(numbers) = all_numbers(self.heap, text)? {
+            self.hypotheses.extend_from_slice(numbers.as_slice())?;
+        }
+        Ok(())
+    }
+
+    // Only a new book and a new step can want for memory, and are then not made.
+    pub fn run(&mut self, command: Command) -> Result<Option<Reply>, AllocError>
         ensures answer { λ r. ⌜ made r (λ reply. Replies (model (now (self .entry))) command reply) ⌝ }
         ensures after { λ r. ⌜ made r (λ _. model (now (self .exit)) ≡ done (model (now (self .entry))) command) ⌝ }
         ensures refused { λ r. ⌜ refused r (λ _. model (now (self .exit)) ≡ model (now (self .entry))) ⌝ }
     {
         match command {
-            Command::Book(number) => self.begin(number),
-            Command::Use(k) => Ok(self.choose(k)),
-            Command::Call(call) => Ok(self.pass_on(call)),
+            Command::Book(number) => Ok(Some(self.begin(number)?)),
+            Command::Use(k) => Ok(Some(self.choose(k))),
+            Command::Call(call) => Ok(Some(self.pass_on(call))),
+            Command::Step(step) => {
+                self.add(step)?;
+                Ok(None)
+            }
+            Command::Check => Ok(Some(self.check())),
         }
+    }
+
+    // Notes that the line of this number was not understood.
+    fn misread(&mut self, number: u64) -> Reply
+        ensures answer { λ r. ⌜ r ≡ Reply.NotUnderstood number ⌝ }
+        ensures after { λ _. ⌜ model (now (self .exit)) ≡ misread (model (now (self .entry))) ⌝ }
+    {
+        self.understood = false;
+        Reply::NotUnderstood(number)
     }
 
     // Runs the next line of a script, which is given with its ending if it has one, and answers what is to be printed.
     pub fn line(&mut self, text: &[u8]) -> Result<Option<Reply>, AllocError>
-        ensures answer { λ r. ⌜ made r (λ reply. Answered (model (now (self .entry))) (read (without-ending (now (text .entry)))) reply) ⌝ }
-        ensures after { λ r. ⌜ made r (λ _. model (now (self .exit)) ≡ following (model (now (self .entry))) (read (without-ending (now (text .entry))))) ⌝ }
+        ensures answer { λ r. ⌜ made r (λ reply. Answered (model (now (self .entry))) (request (without-ending (now (text .entry)))) reply) ⌝ }
+        ensures after { λ r. ⌜ made r (λ _. model (now (self .exit)) ≡ following (model (now (self .entry))) (request (without-ending (now (text .entry))))) ⌝ }
         ensures refused { λ r. ⌜ refused r (λ _. model (now (self .exit)) ≡ model (now (self .entry))) ⌝ }
     {
         let number = self.lines.saturating_add(1);
-        let reply = match read_line(without_ending(text)) {
+        let line = without_ending(text);
+        let reply = match read_line(line) {
             Line::Silent => None,
-            Line::NotUnderstood => {
-                self.understood = false;
-                Some(Reply::NotUnderstood(number))
+            Line::NotUnderstood => Some(self.misread(number)),
+            Line::Asks(command) => self.run(command)?,
+            Line::Hypotheses => {
+                self.append(line)?;
+                None
             }
-            Line::Asks(command) => Some(self.run(command)?),
         };
         self.lines = number;
         Ok(reply)

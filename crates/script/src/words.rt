@@ -1,10 +1,14 @@
-// The words of a text, and the numbers that they write. No call allocates.
+// The words of a text, and the numbers that they write.
 ghost use mathlib.Core.Path.{_≡_};
 ghost use mathlib.Core.List.{[], _∷_};
 ghost use Prim.Native.Nat.{_≤_};
 ghost use lib.ListN.{length};
-ghost use Rattle.std.specs.Options.{Cases};
-ghost use Rattle.script.specs.Words.{words, after-spaces, word-length, number, numbers};
+ghost use Rattle.std.specs.Of.Vec.{vec-items};
+ghost use Rattle.std.specs.Options.{Cases, isSome, mapped};
+ghost use Rattle.std.specs.Vec.{made};
+ghost use Rattle.script.specs.Words.{words, after-spaces, word-length, number, numbers, all-numbers};
+use std::alloc::AllocError;
+use std::alloc::Global;
 
 // A text without the spaces that it begins with.
 fn after_spaces(text: &[u8]) -> &[u8]
@@ -83,4 +87,34 @@ pub(crate) fn numbers<const N: usize>(text: &[u8]) -> Option<[u16; N]>
         Some(_) => None,
         None => Some(all),
     }
+}
+
+// Whether each word of a text is a number of 16 bits.
+pub(crate) fn are_numbers(text: &[u8]) -> bool
+    ensures { λ r. ⌜ r ≡ isSome (all-numbers (words (now (text .entry)))) ⌝ }
+{
+    let mut rest = text;
+    while let Some((word, after)) = next_word(rest) {
+        if short_number(word).is_none() {
+            return false;
+        }
+        rest = after;
+    }
+    true
+}
+
+// The numbers of a text whose words are all numbers of 16 bits.
+pub(crate) fn all_numbers(heap: Global, text: &[u8]) -> Result<Option<Vec<u16>>, AllocError>
+    ensures { λ r. ⌜ made r (λ ns. mapped vec-items ns ≡ all-numbers (words (now (text .entry)))) ⌝ }
+{
+    let mut all = Vec::new(heap);
+    let mut rest = text;
+    while let Some((word, after)) = next_word(rest) {
+        let Some(n) = short_number(word) else {
+            return Ok(None);
+        };
+        all.push(n)?;
+        rest = after;
+    }
+    Ok(Some(all))
 }

@@ -1,3 +1,5 @@
 // What lines ask and are answered, on examples.
 #[cfg(test)]
+mod derivations;
+#[cfg(test)]
 mod tests;

@@ -1,4 +1,5 @@
 // Lines read one by one, and scripts run through a session.
+use calculus::Step;
 use script::command::Call;
 use script::command::CallDebug;
 use script::command::CallPartialEq;
@@ -14,8 +15,20 @@ use script::reply::ReplyDisplay;
 use script::session::Session;
 use std::test::*;
 
+const STEP: Step = Step {
+    rule: 17,
+    goal: 7,
+    start: 0,
+    count: 2,
+    first: 1,
+    second: 65535,
+    a: 4,
+    b: 5,
+    c: 8,
+};
+
 // The commands, with numbers at the ends of their range, spaces and leading zeros.
-const READ: [(&str, Command); 14] = [
+const READ: [(&str, Command); 17] = [
     ("book 0", Command::Book(0)),
     ("book 4294967295", Command::Book(4294967295)),
     ("use 65535", Command::Use(65535)),
@@ -39,6 +52,9 @@ const READ: [(&str, Command); 14] = [
         Command::Call(Call::Substitution(8, 3, 1, 5)),
     ),
     ("book 0000000000000", Command::Book(0)),
+    ("step 17 7 0 2 1 65535 4 5 8", Command::Step(STEP)),
+    ("  step 017 7 00 2 1 65535 4 5  8 ", Command::Step(STEP)),
+    ("check", Command::Check),
 ];
 
 #[test]
@@ -61,7 +77,22 @@ fn blanks_and_comments_are_silent() -> Result<(), Fail> {
     Ok(())
 }
 
-const NOT_UNDERSTOOD: [&[u8]; 29] = [
+const LISTS: [&str; 4] = [
+    "hypotheses",
+    "hypotheses 65535",
+    "  hypotheses  0 1  02 ",
+    "hypotheses 9 8 7 6 5 4 3 2 1 0",
+];
+
+#[test]
+fn lists_of_any_length_are_read() -> Result<(), Fail> {
+    for text in LISTS {
+        check_eq(read_line(text.as_bytes()), Line::Hypotheses)?;
+    }
+    Ok(())
+}
+
+const NOT_UNDERSTOOD: [&[u8]; 37] = [
     b"book",
     b"book 4294967296",
     b"book 99999999999999999999999999999999",
@@ -91,6 +122,14 @@ const NOT_UNDERSTOOD: [&[u8]; 29] = [
     b" # a comment begins before any space",
     b"variable \xff",
     b"\xc3\x28",
+    b"step 1 2 3 4 5 6 7 8",
+    b"step 1 2 3 4 5 6 7 8 9 10",
+    b"step 1 2 3 4 5 6 7 8 65536",
+    b"check 0",
+    b"hypothesis 1",
+    b"hypotheses x",
+    b"hypotheses 1 65536 2",
+    b"hypotheses 1 2 -3",
 ];
 
 #[test]

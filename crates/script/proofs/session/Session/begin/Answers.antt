@@ -5,7 +5,8 @@ use lib.ListN.{length, length-map}
 use Rattle.std.specs.Of.Vec.{vec-items}
 use Rattle.std.proofs.shelf.Lists.{map-push}
 use Rattle.script.specs.Books.{model, new-book}
-use Rattle.script.proofs.Shelved.{session}
+use Rattle.script.specs.Sessions as sessions
+use Rattle.script.specs.Sessions.{with-books}
 use Rattle.script.proofs.session.Session.begin.Needs as need
 
 pub returns : need.returns
@@ -16,4 +17,4 @@ returns c =
     let books : map model (vec-items (c .push .last .self)) ≡ map model old ++ new-book (c .args .number) ∷ [] =
     ap (map model) new ∙ map-push model old (c .in-Continue-book .book) ∙ ap (λ b. map model old ++ b ∷ []) (c .in-Continue-book .ensures tt) in
     let n : c .len-n .result ≡ length (map model old) = omega (arith, length-map old model) in
-    record { answer = refl; after = ap (λ bs. session bs (c .len-n .result) (s .lines) (s .understood)) books ∙ ap (λ k. session (map model old ++ new-book (c .args .number) ∷ []) k (s .lines) (s .understood)) n; refused = tt }
+    record { answer = refl; after = ap (λ bs. with-books (sessions.model s) bs (c .len-n .result)) books ∙ ap (λ k. with-books (sessions.model s) (map model old ++ new-book (c .args .number) ∷ []) k) n; refused = tt }

@@ -4,8 +4,8 @@ use lib.ListN.{length, getD}
 use borrow.Author.Needs.{needs}
 use Rattle.std.specs.Of.Vec.{vec-items}
 use Rattle.script.specs.declared.reply.Reply.the-variants.{NoSuchBook}
-use Rattle.script.specs.Sessions.{Asked}
-use Rattle.script.proofs.Shelved.{here, nowhere, changed, unchanged, session}
+use Rattle.script.specs.Sessions.{Asked, model, with-books}
+use Rattle.script.proofs.Shelved.{here, nowhere, changed, unchanged}
 use Rattle.script.proofs.session.Session.pass_on.Needs as need
 
 pub returns-in-Some : need.returns-in-Some
@@ -18,7 +18,7 @@ returns-in-Some c =
     let at = here books (s .current) b within is in
     record {
       answer = subst (λ o. Asked o (c .args .call) (c .answer .result)) (sym at) (c .answer .ensures .answer);
-      after = ap (λ bs. session bs (s .current) (s .lines) (s .understood)) (changed books (s .current) b (c .answer .last .self) (c .args .call) within is (c .answer .ensures .after));
+      after = ap (λ bs. with-books (model s) bs (s .current)) (changed books (s .current) b (c .answer .last .self) (c .args .call) within is (c .answer .ensures .after));
     }
 
 pub returns-in-None : need.returns-in-None
@@ -29,5 +29,5 @@ returns-in-None c =
     let at = nowhere books (s .current) past in
     record {
       answer = subst (λ o. Asked o (c .args .call) NoSuchBook) (sym at) refl;
-      after = ap (λ bs. session bs (s .current) (s .lines) (s .understood)) (unchanged books (s .current) (c .args .call) past);
+      after = ap (λ bs. with-books (model s) bs (s .current)) (unchanged books (s .current) (c .args .call) past);
     }

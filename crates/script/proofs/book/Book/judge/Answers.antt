@@ -1,0 +1,11 @@
+use mathlib.Core.Path.{sym, subst}
+use Rattle.script.specs.Books.{model, Verdict}
+use Rattle.script.proofs.Judging.{judged}
+use Rattle.script.proofs.book.Book.judge.Needs as need
+
+pub returns : need.returns
+returns c =
+    let b = model (c .args .self .now) in
+    let xs = c .args .steps .now in
+    let hs = c .args .hypotheses .now in
+    subst (Verdict b xs hs) (sym (c .verdict .ensures)) (judged b xs hs (c .check .result) (c .check .ensures .accepted) (c .check .ensures .refused))
