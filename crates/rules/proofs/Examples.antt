@@ -1,7 +1,7 @@
 -- The worked derivations, computed.
 use mathlib.Core.Path.{_≡_, refl, sym, _∙_, ap, subst}
 use mathlib.Core.List.{List, [], _∷_}
-use mathlib.Core.Logic.{inl, ⊎-elim}
+use mathlib.Core.Logic.{inl, inr, ⊎-elim}
 use mathlib.Core.Bool.{Bool, true, not, _&&_}
 use Prim.Native.Nat.{ℕ, zero, suc, _+_, _<_}
 use native.Mathlib.Omega.{arith}
@@ -23,7 +23,8 @@ use Rattle.calculus.specs.declared.refusal.Fault.{Fault}
 use Rattle.calculus.specs.declared.refusal.Fault.the-variants.{Size, Range, NotASequent, UnknownRule, LatePremise, NoInstance}
 use Rattle.calculus.specs.declared.step.Step.{Step}
 use Rattle.calculus.specs.Rising.{Rising}
-use Rattle.rules.specs.Examples.{right-steps, right-list, wrong-steps, wrong-list, Worked-derivations}
+use Rattle.vocabulary.proofs.Reckoned as vocabulary
+use Rattle.rules.specs.Examples.{right-steps, right-list, wrong-steps, wrong-list, Worked-example}
 use Rattle.rules.specs.Tables.{rule-of}
 use Rattle.rules.specs.Theories.{standard}
 use Rattle.rules.proofs.Tables.{rule-of-number}
@@ -124,5 +125,10 @@ wrong-before UnknownRule l = refl
 wrong-before LatePremise l = (λ k. lit< tt, λ k. absurd (omega arith))
 wrong-before NoInstance l = absurd (omega arith)
 
-pub worked-derivations : Worked-derivations
-worked-derivations = ((lit< tt, lit≤ tt, lit≤ tt), right, refl, (lit< tt, lit≤ tt, lit≤ tt), wrong-right, (wrong-before, not-judged))
+pub worked-example : Worked-example
+worked-example = (
+  vocabulary.worked-example,
+  ((lit< tt, lit≤ tt, lit≤ tt), right),
+  refl,
+  inr ((lit< tt, lit≤ tt, lit≤ tt), lit< tt, wrong-right, (wrong-before, not-judged)),
+)

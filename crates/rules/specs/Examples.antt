@@ -1,4 +1,4 @@
--- Two derivations over the worked example: one is right, the other fails at its second step.
+-- The worked example with two derivations over it: one is right, the other fails at its second step.
 use mathlib.Core.Path.{_≡_}
 use mathlib.Core.List.{List, [], _∷_}
 use Prim.Native.Nat.{ℕ}
@@ -6,7 +6,8 @@ use Rattle.logic.specs.Examples.{example}
 use Rattle.logic.specs.Rules.{_⊢_}
 use Rattle.calculus.specs.declared.refusal.Fault.the-variants.{NoInstance}
 use Rattle.calculus.specs.declared.step.Step.{Step}
-use Rattle.calculus.specs.Derivations.{at, sequent, Sized, RightBelow, Fails}
+use Rattle.calculus.specs.Derivations.{root, RightDerivation, FirstFault}
+use Rattle.vocabulary.specs.Example as vocabulary
 use Rattle.rules.specs.Tables.{number}
 use Rattle.rules.specs.Theories.{standard}
 use Rattle.logic.specs.declared.rule.Rule.{Rule}
@@ -30,7 +31,9 @@ wrong-steps = step Hyp 1 0 1 0 0 0 0 ∷ step AllR 9 0 1 0 0 0 0 ∷ []
 abbrev pub wrong-list : List ℕ
 wrong-list = 1 ∷ []
 
-abbrev pub Worked-derivations : Type 0
-Worked-derivations =
-    Sized right-steps right-list × RightBelow standard example right-steps right-list 3 × (sequent right-list (at right-steps 2) ≡ (4 ∷ 6 ∷ [] ⊢ 7)) ×
-    Sized wrong-steps wrong-list × RightBelow standard example wrong-steps wrong-list 1 × Fails NoInstance standard example wrong-steps wrong-list 1 (at wrong-steps 1)
+-- what the vocabulary says of the example; the first derivation is right, and its root is {4, 6} ⊢ 7; the first fault of the second
+-- is that step 1 is no instance
+abbrev pub Worked-example : Type 0
+Worked-example = vocabulary.Worked-example ×
+    RightDerivation standard example right-steps right-list × (root right-steps right-list ≡ (4 ∷ 6 ∷ [] ⊢ 7)) ×
+    FirstFault (record { fault = NoInstance; step = 1 }) standard example wrong-steps wrong-list

@@ -1,5 +1,5 @@
 // What holds of the definitions.
-ghost use Rattle.rules.specs.Examples.{Worked-derivations};
+ghost use Rattle.rules.specs.Examples.{Worked-example};
 ghost use Rattle.rules.specs.Tables.{Table-right};
 ghost use Rattle.rules.specs.Theories.{Three-are-the-table};
 
@@ -17,9 +17,9 @@ pub fn three_are_the_table() -> u8
     0
 }
 
-// A derivation that is right, and one that fails at its second step.
-pub fn worked_derivations_stand() -> u8
-    ensures { λ _. ⌜ Worked-derivations ⌝ }
+// The worked example, with a derivation that is right and one that fails at its second step.
+pub fn worked_example_stands() -> u8
+    ensures { λ _. ⌜ Worked-example ⌝ }
 {
     0
 }
