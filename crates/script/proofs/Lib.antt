@@ -8,3 +8,4 @@ pub mod Keeping
 pub mod Judging
 pub mod Requests
 pub mod Validity
+pub mod Working

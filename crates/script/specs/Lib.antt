@@ -3,3 +3,4 @@ pub mod Commands
 pub mod Replies
 pub mod Books
 pub mod Sessions
+pub mod Worked

@@ -1,4 +1,5 @@
 // What holds of every line and every script.
+ghost use Rattle.script.specs.Worked.{Worked-example};
 ghost use Rattle.script.specs.Commands.{Reads-back, Lists-read-back};
 ghost use Rattle.script.specs.Sessions.{Others-stay, Numbers-stay, Always-current, Always-well-formed, Right-is-valid};
 
@@ -40,6 +41,13 @@ pub fn always_well_formed() -> u8
 
 pub fn right_is_valid() -> u8
     ensures { λ _. ⌜ Right-is-valid ⌝ }
+{
+    0
+}
+
+// The worked example: its vocabulary, its derivations and its run.
+pub fn worked_example_stands() -> u8
+    ensures { λ _. ⌜ Worked-example ⌝ }
 {
     0
 }

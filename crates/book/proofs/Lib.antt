@@ -1,0 +1,14 @@
+pub mod Verdicts
+pub mod Tests
+pub mod Effects
+pub mod Static
+pub mod EntryStates
+pub mod Changes
+pub mod Reading
+pub mod Steps
+pub mod Accepting
+pub mod Naming
+pub mod Growing
+pub mod Traces
+pub mod Keeping
+pub mod Example

@@ -1,0 +1,4 @@
+pub mod Padding
+pub mod Scanning
+pub mod Losing
+pub mod Citing
