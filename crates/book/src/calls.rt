@@ -1,19 +1,52 @@
-// The calls on the vocabulary, giving, and the two asks.
+// The calls on the vocabulary, checking a derivation, giving, and the two asks.
 ghost use mathlib.Core.Bool.{false};
 ghost use mathlib.Core.Logic.{_↔_};
 ghost use mathlib.Core.Path.{_≡_};
 ghost use lib.Dec.{T};
+ghost use Rattle.std.specs.Orderings.{Decides};
+ghost use Rattle.std.specs.Results.{isOk};
+ghost use Rattle.std.specs.Vec.{made};
+ghost use Rattle.std.specs.declared.result.Result.the-variants.{Err};
+ghost use Rattle.calculus.specs.Derivations.{FirstFault, RightDerivation, root};
+ghost use Rattle.calculus.specs.Model.{seq};
 ghost use Rattle.logic.specs.Formulas.{free, Is-substitution};
-ghost use Rattle.logic.specs.Meanings.{Independent, Means-with};
+ghost use Rattle.logic.specs.Meanings.{Independent, Means-with, Valid};
 ghost use Rattle.book.specs.Books.{enter, give, ask-entry, ask-predicate};
 ghost use Rattle.book.specs.Runs.{enters, gives, asks-entry, asks-predicate, Does-plainly};
 ghost use Rattle.book.specs.View.{model};
 use crate::store::Book;
+use calculus::check;
+use calculus::refusal::Refusal as DerivationRefusal;
+use calculus::sequent::Sequent;
+use calculus::step::Step;
+use calculus::theory::Theory;
 use entries::entry::EntryFacts;
 use entries::refusal::Refusal;
 use formulas::calls::Call;
 
 impl Book {
+    // The number that the book was begun with.
+    pub fn number(&self) -> u32
+        ensures { λ r. ⌜ r ≡ model (now (self .entry)) .number ⌝ }
+    {
+        self.number
+    }
+
+    // Judges a derivation in the book's vocabulary, without concluding: the root's sequent, or the first fault.
+    pub fn check<T: Theory>(
+        &self,
+        theory: &T,
+        steps: &[Step],
+        hypotheses: &[u16],
+    ) -> Result<Sequent, DerivationRefusal>
+        ensures accepted { λ r. ⌜ Decides (isOk r) (RightDerivation (meaning (now (theory .entry))) (model (now (self .entry)) .vocabulary) (now (steps .entry)) (now (hypotheses .entry))) ⌝ }
+        ensures refused { λ r. ⌜ ((e : DerivationRefusal) → (r ≡ Err e) ↔ FirstFault e (meaning (now (theory .entry))) (model (now (self .entry)) .vocabulary) (now (steps .entry)) (now (hypotheses .entry))) ⌝ }
+        ensures root { λ r. ⌜ made r (λ s. seq s ≡ root (now (steps .entry)) (now (hypotheses .entry))) ⌝ }
+        ensures valid { λ r. ⌜ made r (λ s. Valid (model (now (self .entry)) .vocabulary) (seq s)) ⌝ }
+    {
+        check(theory, &self.vocabulary, steps, hypotheses)
+    }
+
     // A call on the book's vocabulary.
     pub fn enter(&mut self, call: Call) -> Result<u16, formulas::refusals::Refusal>
         ensures answer { λ r. ⌜ r ≡ enter (model (now (self .entry))) call .answer ⌝ }

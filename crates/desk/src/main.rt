@@ -1,16 +1,14 @@
-// Runs a script from standard input, a call to a line, and prints a line for each call.
+// Runs a script from standard input, a call to a line, and prints a line for each call; then ends the holds still in hand.
 // It ends with status 1 if a line was not understood, if memory is wanting, or if input or output fails.
+use script::Session;
 use script::reply::ReplyDisplay;
-use script::session::Session;
 use std::error::AnyError;
 use std::io::BufRead;
 use std::io::BufReader;
 
-fn main(rt: LibcRuntime) -> Result<(), AnyError> {
-    let heap = rt.alloc();
+fn run(rt: &LibcRuntime, session: &mut Session) -> Result<(), AnyError> {
     let mut input = BufReader::new(rt.stdin());
-    let mut session = Session::new(heap);
-    let mut text = Vec::new(heap);
+    let mut text = Vec::new(rt.alloc());
     for _ in 0..u64::MAX {
         text.clear();
         if input.read_until(b'\n', &mut text)? == 0 {
@@ -20,7 +18,28 @@ fn main(rt: LibcRuntime) -> Result<(), AnyError> {
             rt.println(reply)?;
         }
     }
-    if !session.understood() {
+    Ok(())
+}
+
+fn close(rt: &LibcRuntime, session: &mut Session) -> Result<(), AnyError> {
+    for h in 0..session.holds() {
+        if let Some(reply) = session.close_hold(h) {
+            rt.println(reply)?;
+        }
+    }
+    Ok(())
+}
+
+// However the script ends, its holds are ended.
+fn main(rt: LibcRuntime) -> Result<(), AnyError> {
+    let mut session = Session::new(rt.alloc());
+    let ran = run(&rt, &mut session);
+    let closed = close(&rt, &mut session);
+    let understood = session.understood();
+    session.end();
+    ran?;
+    closed?;
+    if !understood {
         return Err("a line was not understood".into());
     }
     Ok(())

@@ -4,8 +4,10 @@ pub mod Naming
 pub mod Ending
 pub mod Shelved
 pub mod Writing
-pub mod Keeping
 pub mod Judging
 pub mod Requests
-pub mod Validity
+pub mod Granting
+pub mod Keeping
+pub mod Closing
+pub mod Holding
 pub mod Working

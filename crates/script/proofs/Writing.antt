@@ -11,17 +11,18 @@ use lib.ListN.{length, length-map}
 use Rattle.std.specs.Options.{mapped}
 use Rattle.std.specs.Text.{asciiDigit}
 use Rattle.std.specs.Written.{decimal}
-use Rattle.std.specs.shelf.Text.{allDigits}
+use Rattle.std.specs.shelf.Text.{allDigits, sameBytes}
 use Rattle.std.specs.declared.option.Option.the-variants.{Some}
 use Rattle.std.proofs.shelf.Numerals.{Numerals, numerals-by-fold, tells-allDigits}
 use Rattle.std.proofs.shelf.Decimals.{decimal-some, digits-decimal, value-decimal}
 use Rattle.script.specs.declared.command.Call.the-variants as calls
 use Rattle.script.specs.declared.command.Command.the-variants as commands
-use Rattle.script.specs.declared.command.CallVerb.the-variants.{Carrier, Product, Variable, Set, Formula, Free, Substitution}
+use Rattle.script.specs.declared.command.CallVerb.the-variants.{Carrier, Product, Variable, Set, Formula, Free, Substitution, Give, Entry, Predicate}
+use Rattle.script.specs.declared.command.Deed.the-variants.{Preview, Lift, Withdraw}
 use Rattle.script.specs.declared.command.Verb.{Verb}
-use Rattle.script.specs.declared.command.Verb.the-variants.{Book, Use, Call, Step, Check}
-use Rattle.script.specs.Commands.{asks, request, request-words, understood, listed, of-verb, verb-named, is-list, list-word, text-of, word-of, spaced, bits, count, with-numbers, step-numbers, Within, Reads-back, Lists-read-back}
-use Rattle.script.specs.Words.{Bytes, words, lengthen, read-digits, bounded, number, numbers, both}
+use Rattle.script.specs.declared.command.Verb.the-variants.{Book, Use, Call, Step, Check, Hold, Deed}
+use Rattle.script.specs.Commands.{Request, asks, append, draw, request, request-words, understood, listed, of-verb, verb-named, list-word, list-text, conclude-word, conclude-text, text-of, word-of, spaced, bits, count, with-numbers, step-numbers, Within, Reads-back, Lists-read-back}
+use Rattle.script.specs.Words.{Bytes, words, lengthen, read-digits, bounded, number, numbers, both, all-numbers}
 use Rattle.script.proofs.Splitting.{chosen}
 
 -- the number that digits write after those of n
@@ -111,8 +112,15 @@ some-word (Call Set) = omega arith
 some-word (Call Formula) = omega arith
 some-word (Call Free) = omega arith
 some-word (Call Substitution) = omega arith
+some-word (Call Give) = omega arith
+some-word (Call Entry) = omega arith
+some-word (Call Predicate) = omega arith
 some-word Step = omega arith
 some-word Check = omega arith
+some-word Hold = omega arith
+some-word (Deed Preview) = omega arith
+some-word (Deed Lift) = omega arith
+some-word (Deed Withdraw) = omega arith
 
 solid-word : (v : Verb) → Solid (word-of v)
 solid-word Book = search needs
@@ -124,8 +132,15 @@ solid-word (Call Set) = search needs
 solid-word (Call Formula) = search needs
 solid-word (Call Free) = search needs
 solid-word (Call Substitution) = search needs
+solid-word (Call Give) = search needs
+solid-word (Call Entry) = search needs
+solid-word (Call Predicate) = search needs
 solid-word Step = search needs
 solid-word Check = search needs
+solid-word Hold = search needs
+solid-word (Deed Preview) = search needs
+solid-word (Deed Lift) = search needs
+solid-word (Deed Withdraw) = search needs
 
 text-words : (w : Bytes) (ns : List ℕ) → 0 < length w → Solid w → Small ns → words (w ++ spaced ns) ≡ w ∷ map decimal ns
 text-words w ns l h s = digits-then w (spaced ns) l h (spaced-apart ns) ∙ ap (λ ws. w ∷ ws) (spaced-words ns s)
@@ -140,21 +155,35 @@ first-read (Call Set) ns = refl
 first-read (Call Formula) ns = refl
 first-read (Call Free) ns = refl
 first-read (Call Substitution) ns = refl
+first-read (Call Give) ns = refl
+first-read (Call Entry) ns = refl
+first-read (Call Predicate) ns = refl
 first-read Step ns = refl
 first-read Check ns = refl
+first-read Hold ns = refl
+first-read (Deed Preview) ns = refl
+first-read (Deed Lift) ns = refl
+first-read (Deed Withdraw) ns = refl
 
-no-list : (v : Verb) → is-list (word-of v) ≡ false
-no-list Book = refl
-no-list Use = refl
-no-list (Call Carrier) = refl
-no-list (Call Product) = refl
-no-list (Call Variable) = refl
-no-list (Call Set) = refl
-no-list (Call Formula) = refl
-no-list (Call Free) = refl
-no-list (Call Substitution) = refl
-no-list Step = refl
-no-list Check = refl
+no-list : (v : Verb) → (sameBytes (word-of v) list-word ≡ false) × (sameBytes (word-of v) conclude-word ≡ false)
+no-list Book = (refl, refl)
+no-list Use = (refl, refl)
+no-list (Call Carrier) = (refl, refl)
+no-list (Call Product) = (refl, refl)
+no-list (Call Variable) = (refl, refl)
+no-list (Call Set) = (refl, refl)
+no-list (Call Formula) = (refl, refl)
+no-list (Call Free) = (refl, refl)
+no-list (Call Substitution) = (refl, refl)
+no-list (Call Give) = (refl, refl)
+no-list (Call Entry) = (refl, refl)
+no-list (Call Predicate) = (refl, refl)
+no-list Step = (refl, refl)
+no-list Check = (refl, refl)
+no-list Hold = (refl, refl)
+no-list (Deed Preview) = (refl, refl)
+no-list (Deed Lift) = (refl, refl)
+no-list (Deed Withdraw) = (refl, refl)
 
 known : (v : Verb) → verb-named (word-of v) ≡ Some v
 known Book = refl
@@ -166,8 +195,15 @@ known (Call Set) = refl
 known (Call Formula) = refl
 known (Call Free) = refl
 known (Call Substitution) = refl
+known (Call Give) = refl
+known (Call Entry) = refl
+known (Call Predicate) = refl
 known Step = refl
 known Check = refl
+known Hold = refl
+known (Deed Preview) = refl
+known (Deed Lift) = refl
+known (Deed Withdraw) = refl
 
 few-bits : (v : Verb) → 2 ^ bits v ≤ 2 ^ 64
 few-bits Book = omega arith
@@ -175,6 +211,8 @@ few-bits Use = omega arith
 few-bits (Call v) = omega arith
 few-bits Step = omega arith
 few-bits Check = omega arith
+few-bits Hold = omega arith
+few-bits (Deed d) = omega arith
 
 small : (k : ℕ) (ns : List ℕ) → 2 ^ k ≤ 2 ^ 64 → Within k ns → Small ns
 small k [] l h = tt
@@ -185,7 +223,8 @@ read-verb v ns l h =
     let s = small (bits v) ns (few-bits v) h in
     first-read v ns
     ∙ ap request-words (text-words (word-of v) ns (some-word v) (solid-word v) s)
-    ∙ chosen _ false _ _ (no-list v)
+    ∙ chosen _ false _ _ (no-list v .0)
+    ∙ chosen _ false _ _ (no-list v .1)
     ∙ ap (λ o. understood (of-verb o (map decimal ns))) (known v)
     ∙ ap (λ k. understood (mapped (with-numbers v) (numbers (bits v) k (map decimal ns)))) (sym l)
     ∙ ap (λ r. understood (mapped (with-numbers v) r)) (numbers-written (bits v) ns h s)
@@ -200,12 +239,21 @@ reads-back (commands.Call (calls.Set t)) h = read-verb (Call Set) (t ∷ []) ref
 reads-back (commands.Call (calls.Formula k p q)) h = read-verb (Call Formula) (k ∷ p ∷ q ∷ []) refl h
 reads-back (commands.Call (calls.Free x n)) h = read-verb (Call Free) (x ∷ n ∷ []) refl h
 reads-back (commands.Call (calls.Substitution q p x e)) h = read-verb (Call Substitution) (q ∷ p ∷ x ∷ e ∷ []) refl h
+reads-back (commands.Call (calls.Give p)) h = read-verb (Call Give) (p ∷ []) refl h
+reads-back (commands.Call (calls.Entry e)) h = read-verb (Call Entry) (e ∷ []) refl h
+reads-back (commands.Call (calls.Predicate p)) h = read-verb (Call Predicate) (p ∷ []) refl h
 reads-back (commands.Step x) h = read-verb Step (step-numbers x) refl h
 reads-back commands.Check h = read-verb Check [] refl h
+reads-back (commands.Hold e) h = read-verb Hold (e ∷ []) refl h
+reads-back (commands.Deed d k) h = read-verb (Deed d) (k ∷ []) refl h
+
+all-written : (asking : List ℕ → Request) (ns : List ℕ) → Within 16 ns → Small ns → listed asking (all-numbers (map decimal ns)) ≡ asking ns
+all-written asking ns h s =
+    ap (λ k. listed asking (numbers 16 k (map decimal ns))) (length-map ns decimal) ∙ ap (listed asking) (numbers-written 16 ns h s)
 
 pub lists-read-back : Lists-read-back
 lists-read-back ns h =
-    let s = small 16 ns (omega arith) h in
-    ap request-words (text-words list-word ns (omega arith) (search needs) s)
-    ∙ ap (λ k. listed (numbers 16 k (map decimal ns))) (length-map ns decimal)
-    ∙ ap listed (numbers-written 16 ns h s)
+    let s = small 16 ns (omega arith) h in (
+      ap request-words (text-words list-word ns (omega arith) (search needs) s) ∙ all-written append ns h s,
+      ap request-words (text-words conclude-word ns (omega arith) (search needs) s) ∙ all-written draw ns h s,
+    )

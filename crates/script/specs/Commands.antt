@@ -15,21 +15,25 @@ use Rattle.calculus.specs.declared.step.Step.{Step}
 use Rattle.script.specs.declared.command.Call.{Call}
 use Rattle.script.specs.declared.command.Call.the-variants as calls
 use Rattle.script.specs.declared.command.CallVerb.{CallVerb}
-use Rattle.script.specs.declared.command.CallVerb.the-variants.{Carrier, Product, Variable, Set, Formula, Free, Substitution}
+use Rattle.script.specs.declared.command.CallVerb.the-variants.{Carrier, Product, Variable, Set, Formula, Free, Substitution, Give, Entry, Predicate}
 use Rattle.script.specs.declared.command.Command.{Command}
 use Rattle.script.specs.declared.command.Command.the-variants as commands
+use Rattle.script.specs.declared.command.Deed.{Deed}
+use Rattle.script.specs.declared.command.Deed.the-variants.{Preview, Lift, Withdraw}
 use Rattle.script.specs.declared.command.Line.{Line}
 use Rattle.script.specs.declared.command.Line.the-variants as lines
 use Rattle.script.specs.declared.command.Verb.{Verb}
 use Rattle.script.specs.declared.command.Verb.the-variants as verb
 use Rattle.script.specs.Words.{Bytes, words, numbers, all-numbers}
 
--- what a line asks: nothing, what cannot be understood, a command, or numbers to append to the hypotheses
+-- what a line asks: nothing, what cannot be understood, a command, numbers to append to the hypotheses,
+-- or a conclusion with these citations
 pub data Request : Type 0 where
   silent : Request
   not-understood : Request
   asks : Command → Request
   append : List ℕ → Request
+  draw : List ℕ → Request
 
 -- the same, the numbers left out
 abbrev pub line-of : Request → Line
@@ -37,6 +41,7 @@ line-of silent = lines.Silent
 line-of not-understood = lines.NotUnderstood
 line-of (asks c) = lines.Asks c
 line-of (append ns) = lines.Hypotheses
+line-of (draw ns) = lines.Conclude
 
 -- the word of each call, and of each command
 abbrev pub call-word : CallVerb → Bytes
@@ -47,6 +52,14 @@ call-word Set = codes "set"
 call-word Formula = codes "formula"
 call-word Free = codes "free"
 call-word Substitution = codes "substitution"
+call-word Give = codes "give"
+call-word Entry = codes "entry"
+call-word Predicate = codes "predicate"
+
+abbrev pub deed-word : Deed → Bytes
+deed-word Preview = codes "preview"
+deed-word Lift = codes "lift"
+deed-word Withdraw = codes "withdraw"
 
 abbrev pub word-of : Verb → Bytes
 word-of verb.Book = codes "book"
@@ -54,12 +67,16 @@ word-of verb.Use = codes "use"
 word-of (verb.Call v) = call-word v
 word-of verb.Step = codes "step"
 word-of verb.Check = codes "check"
+word-of verb.Hold = codes "hold"
+word-of (verb.Deed d) = deed-word d
 
 abbrev pub verbs : List Verb
 verbs =
     verb.Book ∷ verb.Use
     ∷ verb.Call Carrier ∷ verb.Call Product ∷ verb.Call Variable ∷ verb.Call Set ∷ verb.Call Formula ∷ verb.Call Free ∷ verb.Call Substitution
-    ∷ verb.Step ∷ verb.Check ∷ []
+    ∷ verb.Call Give ∷ verb.Call Entry ∷ verb.Call Predicate
+    ∷ verb.Step ∷ verb.Check
+    ∷ verb.Hold ∷ verb.Deed Preview ∷ verb.Deed Lift ∷ verb.Deed Withdraw ∷ []
 
 abbrev pub one-named : Bytes → List Verb → Option Verb
 one-named w [] = None
@@ -77,6 +94,9 @@ call-count Set = 1
 call-count Formula = 3
 call-count Free = 2
 call-count Substitution = 4
+call-count Give = 1
+call-count Entry = 1
+call-count Predicate = 1
 
 abbrev pub count : Verb → ℕ
 count verb.Book = 1
@@ -84,6 +104,8 @@ count verb.Use = 1
 count (verb.Call v) = call-count v
 count verb.Step = 9
 count verb.Check = 0
+count verb.Hold = 1
+count (verb.Deed d) = 1
 
 -- how many bits each of them has
 abbrev pub bits : Verb → ℕ
@@ -92,6 +114,8 @@ bits verb.Use = 16
 bits (verb.Call v) = 16
 bits verb.Step = 16
 bits verb.Check = 16
+bits verb.Hold = 16
+bits (verb.Deed d) = 16
 
 abbrev at : List ℕ → ℕ → ℕ
 at ns i = getD ns i 0
@@ -105,6 +129,9 @@ call-with Set ns = calls.Set (at ns 0)
 call-with Formula ns = calls.Formula (at ns 0) (at ns 1) (at ns 2)
 call-with Free ns = calls.Free (at ns 0) (at ns 1)
 call-with Substitution ns = calls.Substitution (at ns 0) (at ns 1) (at ns 2) (at ns 3)
+call-with Give ns = calls.Give (at ns 0)
+call-with Entry ns = calls.Entry (at ns 0)
+call-with Predicate ns = calls.Predicate (at ns 0)
 
 abbrev pub step-with : List ℕ → Step
 step-with ns =
@@ -126,6 +153,8 @@ with-numbers verb.Use ns = commands.Use (at ns 0)
 with-numbers (verb.Call v) ns = commands.Call (call-with v ns)
 with-numbers verb.Step ns = commands.Step (step-with ns)
 with-numbers verb.Check ns = commands.Check
+with-numbers verb.Hold ns = commands.Hold (at ns 0)
+with-numbers (verb.Deed d) ns = commands.Deed d (at ns 0)
 
 abbrev pub call-of : CallVerb → List Bytes → Option Call
 call-of v ws = mapped (call-with v) (numbers 16 (call-count v) ws)
@@ -151,20 +180,26 @@ abbrev pub understood : Option Command → Request
 understood None = not-understood
 understood (Some c) = asks c
 
--- the word of a list of hypotheses
+-- the word of a list of hypotheses, and of citations
 abbrev pub list-word : Bytes
 list-word = codes "hypotheses"
 
-abbrev pub is-list : Bytes → Bool
-is-list w = sameBytes w list-word
+abbrev pub conclude-word : Bytes
+conclude-word = codes "conclude"
 
-abbrev pub listed : Option (List ℕ) → Request
-listed None = not-understood
-listed (Some ns) = append ns
+abbrev pub listed : (List ℕ → Request) → Option (List ℕ) → Request
+listed asking None = not-understood
+listed asking (Some ns) = asking ns
+
+-- the same, the numbers left out
+abbrev pub list-line : Line → Option (List ℕ) → Line
+list-line l None = lines.NotUnderstood
+list-line l (Some ns) = l
 
 abbrev pub request-words : List Bytes → Request
 request-words [] = silent
-request-words (w ∷ ws) = cond (is-list w) (listed (all-numbers ws)) (understood (command w ws))
+request-words (w ∷ ws) =
+    cond (sameBytes w list-word) (listed append (all-numbers ws)) (cond (sameBytes w conclude-word) (listed draw (all-numbers ws)) (understood (command w ws)))
 
 -- what a line asks; a comment begins with '#'
 abbrev pub request : Bytes → Request
@@ -197,6 +232,9 @@ call-verb (calls.Set t) = Set
 call-verb (calls.Formula k p q) = Formula
 call-verb (calls.Free x n) = Free
 call-verb (calls.Substitution q p x e) = Substitution
+call-verb (calls.Give p) = Give
+call-verb (calls.Entry e) = Entry
+call-verb (calls.Predicate p) = Predicate
 
 abbrev pub call-numbers : Call → List ℕ
 call-numbers calls.Carrier = []
@@ -206,6 +244,9 @@ call-numbers (calls.Set t) = t ∷ []
 call-numbers (calls.Formula k p q) = k ∷ p ∷ q ∷ []
 call-numbers (calls.Free x n) = x ∷ n ∷ []
 call-numbers (calls.Substitution q p x e) = q ∷ p ∷ x ∷ e ∷ []
+call-numbers (calls.Give p) = p ∷ []
+call-numbers (calls.Entry e) = e ∷ []
+call-numbers (calls.Predicate p) = p ∷ []
 
 abbrev pub step-numbers : Step → List ℕ
 step-numbers x = x .rule ∷ x .goal ∷ x .start ∷ x .count ∷ x .first ∷ x .second ∷ x .a ∷ x .b ∷ x .c ∷ []
@@ -216,6 +257,8 @@ verb-of (commands.Use k) = verb.Use
 verb-of (commands.Call c) = verb.Call (call-verb c)
 verb-of (commands.Step x) = verb.Step
 verb-of commands.Check = verb.Check
+verb-of (commands.Hold e) = verb.Hold
+verb-of (commands.Deed d h) = verb.Deed d
 
 abbrev pub numbers-of : Command → List ℕ
 numbers-of (commands.Book n) = n ∷ []
@@ -223,6 +266,8 @@ numbers-of (commands.Use k) = k ∷ []
 numbers-of (commands.Call c) = call-numbers c
 numbers-of (commands.Step x) = step-numbers x
 numbers-of commands.Check = []
+numbers-of (commands.Hold e) = e ∷ []
+numbers-of (commands.Deed d h) = h ∷ []
 
 -- the line that asks for a call, and for a command
 abbrev pub call-text : Call → Bytes
@@ -231,9 +276,12 @@ call-text c = call-word (call-verb c) ++ spaced (call-numbers c)
 abbrev pub command-text : Command → Bytes
 command-text c = text-of (verb-of c) (numbers-of c)
 
--- the line that appends numbers
+-- the line that appends numbers, and the line that concludes
 abbrev pub list-text : List ℕ → Bytes
 list-text ns = list-word ++ spaced ns
+
+abbrev pub conclude-text : List ℕ → Bytes
+conclude-text ns = conclude-word ++ spaced ns
 
 -- numbers of so many bits
 abbrev pub Within : ℕ → List ℕ → Type 0
@@ -246,4 +294,4 @@ Reads-back = (c : Command) → Within (bits (verb-of c)) (numbers-of c) → requ
 
 -- and so for a list of numbers
 abbrev pub Lists-read-back : Type 0
-Lists-read-back = (ns : List ℕ) → Within 16 ns → request (list-text ns) ≡ append ns
+Lists-read-back = (ns : List ℕ) → Within 16 ns → (request (list-text ns) ≡ append ns) × (request (conclude-text ns) ≡ draw ns)

@@ -66,3 +66,12 @@ numbers bits (suc k) (w ∷ ws) = both (number bits w) (numbers bits k ws)
 -- the numbers of 16 bits that words write, if each writes one
 abbrev pub all-numbers : List Bytes → Option (List ℕ)
 all-numbers ws = numbers 16 (length ws) ws
+
+abbrev pub or-none : Option (List ℕ) → List ℕ
+or-none None = []
+or-none (Some ns) = ns
+
+-- the numbers after the first word, if all words after it are numbers
+abbrev pub numbers-after : List Bytes → List ℕ
+numbers-after [] = []
+numbers-after (w ∷ ws) = or-none (all-numbers ws)

@@ -1,73 +1,53 @@
-// A book: its number and its vocabulary.
+// What the current book is asked, and how its answers read.
 ghost use mathlib.Core.Path.{_≡_};
-ghost use Rattle.std.specs.Vec.{made};
-ghost use Rattle.script.specs.Books.{model, new-book, granted, said, Answers, after, verdict, Verdict};
+ghost use Rattle.book.specs.View.{model};
+ghost use Rattle.script.specs.Books.{granted, entered, told, found, said, Answers, after, verdict, Verdict};
 use crate::command::Call;
 use crate::reply::Reply;
 use crate::reply::Thing;
+use book::Book;
 use calculus::JoinedTheory;
 use calculus::Refusal as Fault;
 use calculus::Sequent;
 use calculus::Step;
-use calculus::check;
+use entries::entry::EntryFacts;
+use entries::refusal::Refusal;
 use formulas::calls::Call as Entering;
-use formulas::refusals::Refusal;
+use formulas::refusals::Refusal as NotEntered;
 use rules::standard::standard_theory;
 use rules::theories::EqualityTheory;
 use rules::theories::PropositionsTheory;
 use rules::theories::QuantifiersTheory;
-use std::alloc::AllocError;
-use std::alloc::Global;
-use vocabulary::store::Vocabulary;
 
-#[derive(Drop)]
-pub struct Book {
-    number: u32,
-    vocabulary: Vocabulary,
+// Makes a call on a book, and answers what it gave.
+pub fn answer(book: &mut Book, call: Call) -> Reply
+    ensures answer { λ r. ⌜ Answers (model (now (book .entry))) call r ⌝ }
+    ensures after { λ _. ⌜ model (now (book .exit)) ≡ after (model (now (book .entry))) call ⌝ }
+{
+    match call {
+        Call::Carrier => granted(Thing::Type, book.enter(Entering::NewCarrier)),
+        Call::Product(s, t) => granted(Thing::Type, book.enter(Entering::NewProduct(s, t))),
+        Call::Variable(t) => granted(Thing::Variable, book.enter(Entering::NewVariable(t))),
+        Call::Set(t) => granted(Thing::Set, book.enter(Entering::NewSetName(t))),
+        Call::Formula(kind, a, b) => {
+            granted(
+                Thing::Formula,
+                book.enter(Entering::EnterFormula(kind, a, b)),
+            )
+        }
+        Call::Free(x, n) => said(book.is_free(x, n)),
+        Call::Substitution(q, p, x, e) => said(book.is_substitution(q, p, x, e)),
+        Call::Give(p) => entered(book.give(p)),
+        Call::Entry(e) => told(book.ask_entry(e)),
+        Call::Predicate(p) => found(book.ask_predicate(p)),
+    }
 }
 
-impl Book {
-    pub fn new(heap: Global, number: u32) -> Result<Book, AllocError>
-        ensures { λ r. ⌜ made r (λ b. model b ≡ new-book number) ⌝ }
-    {
-        Ok(Book {
-            number,
-            vocabulary: Vocabulary::new(heap)?,
-        })
-    }
-
-    pub fn number(&self) -> u32
-        ensures { λ r. ⌜ r ≡ model (now (self .entry)) .number ⌝ }
-    {
-        self.number
-    }
-
-    // Makes a call on the book, and answers what it gave.
-    pub fn answer(&mut self, call: Call) -> Reply
-        ensures answer { λ r. ⌜ Answers (model (now (self .entry))) call r ⌝ }
-        ensures after { λ _. ⌜ model (now (self .exit)) ≡ after (model (now (self .entry))) call ⌝ }
-    {
-        let v = &mut self.vocabulary;
-        match call {
-            Call::Carrier => granted(Thing::Type, v.enter(Entering::NewCarrier)),
-            Call::Product(s, t) => granted(Thing::Type, v.enter(Entering::NewProduct(s, t))),
-            Call::Variable(t) => granted(Thing::Variable, v.enter(Entering::NewVariable(t))),
-            Call::Set(t) => granted(Thing::Set, v.enter(Entering::NewSetName(t))),
-            Call::Formula(kind, a, b) => {
-                granted(Thing::Formula, v.enter(Entering::EnterFormula(kind, a, b)))
-            }
-            Call::Free(x, n) => said(v.is_free(x, n)),
-            Call::Substitution(q, p, x, e) => said(v.is_substitution(q, p, x, e)),
-        }
-    }
-
-    // Judges a derivation in the book's vocabulary, by the three built theories joined.
-    pub fn judge(&self, steps: &[Step], hypotheses: &[u16]) -> Reply
-        ensures { λ r. ⌜ Verdict (model (now (self .entry))) (now (steps .entry)) (now (hypotheses .entry)) r ⌝ }
-    {
-        let theory = standard_theory();
-        verdict(check(&theory, &self.vocabulary, steps, hypotheses))
-    }
+// Judges a derivation in the book's vocabulary, by the three built theories joined.
+pub fn judge(book: &Book, steps: &[Step], hypotheses: &[u16]) -> Reply
+    ensures { λ r. ⌜ Verdict (model (now (book .entry))) (now (steps .entry)) (now (hypotheses .entry)) r ⌝ }
+{
+    verdict(book.check(&standard_theory(), steps, hypotheses))
 }
 
 // A derivation is right, or was refused.
@@ -81,11 +61,40 @@ fn verdict(answer: Result<Sequent, Fault>) -> Reply
 }
 
 // A call gave the number of a thing, or was refused.
-fn granted(thing: Thing, answer: Result<u16, Refusal>) -> Reply
+fn granted(thing: Thing, answer: Result<u16, NotEntered>) -> Reply
     ensures { λ r. ⌜ r ≡ granted thing answer ⌝ }
 {
     match answer {
         Ok(n) => Reply::Numbered(thing, n),
+        Err(refusal) => Reply::Refused(refusal.notice()),
+    }
+}
+
+// A rule or a conclusion has a number, or was refused.
+pub(crate) fn entered(answer: Result<u16, Refusal>) -> Reply
+    ensures { λ r. ⌜ r ≡ entered answer ⌝ }
+{
+    match answer {
+        Ok(e) => Reply::Numbered(Thing::Entry, e),
+        Err(refusal) => Reply::Refused(refusal.notice()),
+    }
+}
+
+fn told(answer: Result<EntryFacts, Refusal>) -> Reply
+    ensures { λ r. ⌜ r ≡ told answer ⌝ }
+{
+    match answer {
+        Ok(facts) => Reply::Entry(facts),
+        Err(refusal) => Reply::Refused(refusal.notice()),
+    }
+}
+
+fn found(answer: Result<Option<u16>, Refusal>) -> Reply
+    ensures { λ r. ⌜ r ≡ found answer ⌝ }
+{
+    match answer {
+        Ok(Some(e)) => Reply::Numbered(Thing::Entry, e),
+        Ok(None) => Reply::NoEntry,
         Err(refusal) => Reply::Refused(refusal.notice()),
     }
 }

@@ -1,8 +1,10 @@
 // What a line of a script asks: a word, and then numbers in decimal, with spaces between them.
+ghost use mathlib.Core.List.{_∷_};
 ghost use mathlib.Core.Path.{_≡_};
 ghost use Rattle.std.specs.declared.option.Option.the-variants.{Some};
+ghost use Rattle.std.specs.shelf.Text.{sameBytes};
 ghost use Rattle.script.specs.Words.{words, all-numbers};
-ghost use Rattle.script.specs.Commands.{call-word, word-of, verb-named, command, only-number, call-of, step-of, command-of, is-list, listed, without-ending, request, line-of, call-text, command-text};
+ghost use Rattle.script.specs.Commands.{call-word, word-of, deed-word, verb-named, command, only-number, call-of, step-of, command-of, list-line, without-ending, request, request-words, line-of, call-text, command-text};
 use crate::words::are_numbers;
 use crate::words::next_word;
 use crate::words::number;
@@ -22,6 +24,17 @@ pub enum Call {
     Formula(u16, u16, u16),
     Free(u16, u16),
     Substitution(u16, u16, u16, u16),
+    Give(u16),
+    Entry(u16),
+    Predicate(u16),
+}
+
+// What is done with a hold in hand.
+#[derive(Clone, Copy, PartialEq, Eq, Debug)]
+pub enum Deed {
+    Preview,
+    Lift,
+    Withdraw,
 }
 
 #[derive(Clone, Copy, PartialEq, Eq, Debug)]
@@ -31,15 +44,18 @@ pub enum Command {
     Call(Call),
     Step(Step),
     Check,
+    Hold(u16),
+    Deed(Deed, u16),
 }
 
-// What a line asks. A line of hypotheses is read for its numbers when they are appended.
+// What a line asks. A line of hypotheses or of citations is read for its numbers when it is run.
 #[derive(Clone, Copy, PartialEq, Eq, Debug)]
 pub enum Line {
     Silent,
     NotUnderstood,
     Asks(Command),
     Hypotheses,
+    Conclude,
 }
 
 // The word that a call begins with.
@@ -52,6 +68,9 @@ enum CallVerb {
     Formula,
     Free,
     Substitution,
+    Give,
+    Entry,
+    Predicate,
 }
 
 // The word that a command begins with.
@@ -62,6 +81,8 @@ enum Verb {
     Call(CallVerb),
     Step,
     Check,
+    Hold,
+    Deed(Deed),
 }
 
 pub impl fmt::Display for Call as CallDisplay {
@@ -76,6 +97,21 @@ pub impl fmt::Display for Call as CallDisplay {
             Call::Formula(kind, a, b) => write!(f, "formula {kind} {a} {b}"),
             Call::Free(x, n) => write!(f, "free {x} {n}"),
             Call::Substitution(q, p, x, e) => write!(f, "substitution {q} {p} {x} {e}"),
+            Call::Give(p) => write!(f, "give {p}"),
+            Call::Entry(e) => write!(f, "entry {e}"),
+            Call::Predicate(p) => write!(f, "predicate {p}"),
+        }
+    }
+}
+
+pub impl fmt::Display for Deed as DeedDisplay {
+    ghost shown = { λ d. Some (deed-word d) };
+
+    fn fmt<W: fmt::Write>(&self, f: &mut fmt::Formatter<W>) -> fmt::Result {
+        match self {
+            Deed::Preview => f.write_str("preview"),
+            Deed::Lift => f.write_str("lift"),
+            Deed::Withdraw => f.write_str("withdraw"),
         }
     }
 }
@@ -94,6 +130,20 @@ pub impl fmt::Display for Command as CommandDisplay {
                 s.rule, s.goal, s.start, s.count, s.first, s.second, s.a, s.b, s.c
             ),
             Command::Check => f.write_str("check"),
+            Command::Hold(e) => write!(f, "hold {e}"),
+            Command::Deed(deed, h) => write!(f, "{deed} {h}"),
+        }
+    }
+}
+
+impl Deed {
+    fn word(self) -> &'static [u8]
+        ensures { λ r. ⌜ now r ≡ deed-word self ⌝ }
+    {
+        match self {
+            Deed::Preview => b"preview",
+            Deed::Lift => b"lift",
+            Deed::Withdraw => b"withdraw",
         }
     }
 }
@@ -110,6 +160,9 @@ impl CallVerb {
             CallVerb::Formula => b"formula",
             CallVerb::Free => b"free",
             CallVerb::Substitution => b"substitution",
+            CallVerb::Give => b"give",
+            CallVerb::Entry => b"entry",
+            CallVerb::Predicate => b"predicate",
         }
     }
 
@@ -146,13 +199,25 @@ impl CallVerb {
                 let [q, p, x, e] = numbers::<4>(text)?;
                 Call::Substitution(q, p, x, e)
             }
+            CallVerb::Give => {
+                let [p] = numbers::<1>(text)?;
+                Call::Give(p)
+            }
+            CallVerb::Entry => {
+                let [e] = numbers::<1>(text)?;
+                Call::Entry(e)
+            }
+            CallVerb::Predicate => {
+                let [p] = numbers::<1>(text)?;
+                Call::Predicate(p)
+            }
         };
         Some(call)
     }
 }
 
 impl Verb {
-    const ALL: [Verb; 11] = [
+    const ALL: [Verb; 18] = [
         Verb::Book,
         Verb::Use,
         Verb::Call(CallVerb::Carrier),
@@ -162,8 +227,15 @@ impl Verb {
         Verb::Call(CallVerb::Formula),
         Verb::Call(CallVerb::Free),
         Verb::Call(CallVerb::Substitution),
+        Verb::Call(CallVerb::Give),
+        Verb::Call(CallVerb::Entry),
+        Verb::Call(CallVerb::Predicate),
         Verb::Step,
         Verb::Check,
+        Verb::Hold,
+        Verb::Deed(Deed::Preview),
+        Verb::Deed(Deed::Lift),
+        Verb::Deed(Deed::Withdraw),
     ];
 
     fn word(self) -> &'static [u8]
@@ -175,6 +247,8 @@ impl Verb {
             Verb::Call(verb) => verb.word(),
             Verb::Step => b"step",
             Verb::Check => b"check",
+            Verb::Hold => b"hold",
+            Verb::Deed(deed) => deed.word(),
         }
     }
 
@@ -205,6 +279,14 @@ impl Verb {
             Verb::Check => {
                 let [] = numbers::<0>(text)?;
                 Command::Check
+            }
+            Verb::Hold => {
+                let [e] = numbers::<1>(text)?;
+                Command::Hold(e)
+            }
+            Verb::Deed(deed) => {
+                let [h] = numbers::<1>(text)?;
+                Command::Deed(deed, h)
             }
         };
         Some(command)
@@ -260,21 +342,37 @@ pub(crate) fn without_ending(line: &[u8]) -> &[u8]
     }
 }
 
-// Whether a line that begins with this word is one of hypotheses.
-fn is_list(word: &[u8]) -> bool
-    ensures { λ r. ⌜ r ≡ is-list (now (word .entry)) ⌝ }
+// Whether a word is this one.
+fn is_word(word: &[u8], this: &[u8]) -> bool
+    ensures { λ r. ⌜ r ≡ sameBytes (now (word .entry)) (now (this .entry)) ⌝ }
 {
-    word == b"hypotheses".as_slice()
+    word == this
 }
 
-// What a line of hypotheses asks, its first word left out.
-fn read_list(text: &[u8]) -> Line
-    ensures { λ r. ⌜ r ≡ line-of (listed (all-numbers (words (now (text .entry))))) ⌝ }
+// What a line of numbers asks, its first word left out.
+fn read_list(line: Line, text: &[u8]) -> Line
+    ensures { λ r. ⌜ r ≡ list-line line (all-numbers (words (now (text .entry)))) ⌝ }
 {
     if are_numbers(text) {
-        Line::Hypotheses
+        line
     } else {
         Line::NotUnderstood
+    }
+}
+
+// What a first word and the text after it ask.
+fn read_words(word: &[u8], text: &[u8]) -> Line
+    ensures { λ r. ⌜ r ≡ line-of (request-words (now (word .entry) ∷ words (now (text .entry)))) ⌝ }
+{
+    if is_word(word, b"hypotheses") {
+        return read_list(Line::Hypotheses, text);
+    }
+    if is_word(word, b"conclude") {
+        return read_list(Line::Conclude, text);
+    }
+    match read_command(word, text) {
+        Some(command) => Line::Asks(command),
+        None => Line::NotUnderstood,
     }
 }
 
@@ -285,14 +383,8 @@ pub fn read_line(line: &[u8]) -> Line
     if let [b'#', ..] = line {
         return Line::Silent;
     }
-    let Some((word, rest)) = next_word(line) else {
-        return Line::Silent;
-    };
-    if is_list(word) {
-        return read_list(rest);
-    }
-    match read_command(word, rest) {
-        Some(command) => Line::Asks(command),
-        None => Line::NotUnderstood,
+    match next_word(line) {
+        Some((word, rest)) => read_words(word, rest),
+        None => Line::Silent,
     }
 }

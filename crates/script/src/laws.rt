@@ -1,7 +1,7 @@
 // What holds of every line and every script.
 ghost use Rattle.script.specs.Worked.{Worked-example};
 ghost use Rattle.script.specs.Commands.{Reads-back, Lists-read-back};
-ghost use Rattle.script.specs.Sessions.{Others-stay, Numbers-stay, Always-current, Always-well-formed, Right-is-valid};
+ghost use Rattle.script.specs.Sessions.{Others-stay, Numbers-stay, Always-current, Always-run, Always-well-formed};
 
 pub fn reads_back() -> u8
     ensures { λ _. ⌜ Reads-back ⌝ }
@@ -33,14 +33,14 @@ pub fn always_current() -> u8
     0
 }
 
-pub fn always_well_formed() -> u8
-    ensures { λ _. ⌜ Always-well-formed ⌝ }
+pub fn always_run() -> u8
+    ensures { λ _. ⌜ Always-run ⌝ }
 {
     0
 }
 
-pub fn right_is_valid() -> u8
-    ensures { λ _. ⌜ Right-is-valid ⌝ }
+pub fn always_well_formed() -> u8
+    ensures { λ _. ⌜ Always-well-formed ⌝ }
 {
     0
 }

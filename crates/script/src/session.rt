@@ -1,33 +1,33 @@
-// A script as it is run: the books begun so far, the one that calls go to, and the derivation that is being written.
-ghost use mathlib.Core.List.{List, []};
+// A script as it is run, line by line, and how it is closed.
 ghost use mathlib.Core.Path.{_≡_};
-ghost use Prim.Native.Nat.{ℕ};
+ghost use lib.ListN.{length};
 ghost use Rattle.std.specs.Vec.{made, refused};
-ghost use Rattle.script.specs.Commands.{without-ending, request, append};
-ghost use Rattle.script.specs.Sessions.{model, start, Replies, done, Answered, used, Passed, Tried, with-derivation, appended, misread, following};
-use crate::book::Book;
+ghost use Rattle.std.specs.shelf.Maps.{nth};
+ghost use Rattle.script.specs.Commands.{without-ending, request};
+ghost use Rattle.script.specs.Sessions.{model, start, Replies, done, used, Passed, Tried, Concludes, held-reply, deed-reply, appended, closed, closed-at, next-line, Did, Follows};
+use crate::book::answer;
+use crate::book::entered;
+use crate::book::judge;
 use crate::command::Call;
 use crate::command::Command;
+use crate::command::Deed;
 use crate::command::Line;
 use crate::command::read_line;
 use crate::command::without_ending;
+use crate::hand::InHand;
 use crate::reply::Reply;
-use crate::words::all_numbers;
-use crate::words::next_word;
+use crate::store::Session;
+use crate::words::numbers_after;
+use book::Book;
+use calculus::JoinedTheory;
 use calculus::Step;
+use rules::standard::standard_theory;
+use rules::theories::EqualityTheory;
+use rules::theories::PropositionsTheory;
+use rules::theories::QuantifiersTheory;
 use std::alloc::AllocError;
 use std::alloc::Global;
-
-#[derive(Drop)]
-pub struct Session {
-    heap: Global,
-    books: Vec<Book>,
-    current: usize,
-    steps: Vec<Step>,
-    hypotheses: Vec<u16>,
-    lines: u64,
-    understood: bool,
-}
+use std::mem;
 
 impl Session {
     pub fn new(heap: Global) -> Session
@@ -39,6 +39,7 @@ impl Session {
             current: 0,
             steps: Vec::new(heap),
             hypotheses: Vec::new(heap),
+            holds: Vec::new(heap),
             lines: 0,
             understood: true,
         }
@@ -51,13 +52,20 @@ impl Session {
         self.understood
     }
 
+    // How many holds were granted so far.
+    pub fn holds(&self) -> usize
+        ensures { λ r. ⌜ r ≡ length (model (now (self .entry)) .holds) ⌝ }
+    {
+        self.holds.len()
+    }
+
     // Begins a book, and makes it the current one.
     fn begin(&mut self, number: u32) -> Result<Reply, AllocError>
         ensures answer { λ r. ⌜ made r (λ reply. reply ≡ Reply.Book number) ⌝ }
         ensures after { λ r. ⌜ made r (λ _. model (now (self .exit)) ≡ done (model (now (self .entry))) (Command.Book number)) ⌝ }
         ensures refused { λ r. ⌜ refused r (λ _. model (now (self .exit)) ≡ model (now (self .entry))) ⌝ }
     {
-        let book = Book::new(self.heap, number)?;
+        let book = Book::begin(self.heap, number, &standard_theory())?;
         let n = self.books.len();
         self.books.push(book)?;
         self.current = n;
@@ -84,7 +92,7 @@ impl Session {
         ensures after { λ _. ⌜ model (now (self .exit)) ≡ done (model (now (self .entry))) (Command.Call call) ⌝ }
     {
         match self.books.get_mut(self.current) {
-            Some(book) => book.answer(call),
+            Some(book) => answer(book, call),
             None => Reply::NoSuchBook,
         }
     }
@@ -98,14 +106,6 @@ impl Session {
         Ok(())
     }
 
-    // Begins a new derivation.
-    fn clear(&mut self)
-        ensures { λ _. ⌜ model (now (self .exit)) ≡ with-derivation (model (now (self .entry))) [] [] ⌝ }
-    {
-        self.steps.clear();
-        self.hypotheses.clear();
-    }
-
     // Judges the derivation in the current book, and begins a new one.
     fn check(&mut self) -> Reply
         ensures answer { λ r. ⌜ Tried (model (now (self .entry))) r ⌝ }
@@ -114,26 +114,72 @@ impl Session {
         let Some(book) = self.books.get(self.current) else {
             return Reply::NoSuchBook;
         };
-        let reply = book.judge(self.steps.as_slice(), self.hypotheses.as_slice());
-        self.clear();
+        let reply = judge(book, self.steps.as_slice(), self.hypotheses.as_slice());
+        self.steps.clear();
+        self.hypotheses.clear();
         reply
     }
 
-    // Appends the numbers of a line of hypotheses.
-    fn append(&mut self, line: &[u8]) -> Result<(), AllocError>
-        ensures after { λ r. ⌜ made r (λ _. (ns : List ℕ) → request (now (line .entry)) ≡ append ns → model (now (self .exit)) ≡ appended (model (now (self .entry))) ns) ⌝ }
+    // Holds a rule of the current book. There is room for the hold before it is asked for.
+    fn hold(&mut self, e: u16) -> Result<Reply, AllocError>
+        ensures answer { λ r. ⌜ made r (λ reply. reply ≡ held-reply (model (now (self .entry))) e) ⌝ }
+        ensures after { λ r. ⌜ made r (λ _. model (now (self .exit)) ≡ done (model (now (self .entry))) (Command.Hold e)) ⌝ }
         ensures refused { λ r. ⌜ refused r (λ _. model (now (self .exit)) ≡ model (now (self .entry))) ⌝ }
     {
-        let Some((_, text)) = next_word(line) else {
-            return Ok(());
+        self.holds.reserve(1)?;
+        let Some(book) = self.books.get_mut(self.current) else {
+            return Ok(Reply::NoSuchBook);
         };
-        if let Some(numbers) = all_numbers(self.heap, text)? {
-            self.hypotheses.extend_from_slice(numbers.as_slice())?;
+        match book.hold(e) {
+            Ok(hold) => {
+                let n = self.holds.len();
+                let granted_by = self.current;
+                self.holds.push_reserved(InHand::Held { hold, granted_by });
+                Ok(Reply::Hold(n))
+            }
+            Err(refusal) => Ok(Reply::Refused(refusal.notice())),
         }
+    }
+
+    // Does something with a hold in hand, on the current book.
+    fn deal(&mut self, deed: Deed, h: usize) -> Reply
+        ensures answer { λ r. ⌜ r ≡ deed-reply (model (now (self .entry))) deed h ⌝ }
+        ensures after { λ _. ⌜ model (now (self .exit)) ≡ done (model (now (self .entry))) (Command.Deed deed h) ⌝ }
+    {
+        let Some(book) = self.books.get_mut(self.current) else {
+            return Reply::NoSuchBook;
+        };
+        match self.holds.get_mut(h) {
+            Some(held) => held.undergo(deed, book),
+            None => Reply::NoSuchHold,
+        }
+    }
+
+    // Appends numbers to the hypotheses.
+    fn append(&mut self, numbers: &[u16]) -> Result<(), AllocError>
+        ensures after { λ r. ⌜ made r (λ _. model (now (self .exit)) ≡ appended (model (now (self .entry))) (now (numbers .entry))) ⌝ }
+        ensures refused { λ r. ⌜ refused r (λ _. model (now (self .exit)) ≡ model (now (self .entry))) ⌝ }
+    {
+        self.hypotheses.extend_from_slice(numbers)?;
         Ok(())
     }
 
-    // Only a new book and a new step can want for memory, and are then not made.
+    // Hands the derivation over to the current book with citations, and begins a new one.
+    fn conclude(&mut self, citations: &[u16]) -> Reply
+        ensures { λ r. ⌜ Concludes (model (now (self .entry))) (now (citations .entry)) (nth (model (now (self .entry)) .books) (model (now (self .entry)) .current)) r (model (now (self .exit))) ⌝ }
+    {
+        let Some(book) = self.books.get_mut(self.current) else {
+            return Reply::NoSuchBook;
+        };
+        let steps = self.steps.as_slice();
+        let hypotheses = self.hypotheses.as_slice();
+        let reply = entered(book.conclude(&standard_theory(), steps, hypotheses, citations));
+        self.steps.clear();
+        self.hypotheses.clear();
+        reply
+    }
+
+    // Only a new book, a new step and a new hold can want for memory, and are then not begun.
     pub fn run(&mut self, command: Command) -> Result<Option<Reply>, AllocError>
         ensures answer { λ r. ⌜ made r (λ reply. Replies (model (now (self .entry))) command reply) ⌝ }
         ensures after { λ r. ⌜ made r (λ _. model (now (self .exit)) ≡ done (model (now (self .entry))) command) ⌝ }
@@ -148,36 +194,76 @@ impl Session {
                 Ok(None)
             }
             Command::Check => Ok(Some(self.check())),
+            Command::Hold(e) => Ok(Some(self.hold(e)?)),
+            Command::Deed(deed, h) => Ok(Some(self.deal(deed, usize::from(h)))),
         }
     }
 
-    // Notes that the line of this number was not understood.
-    fn misread(&mut self, number: u64) -> Reply
-        ensures answer { λ r. ⌜ r ≡ Reply.NotUnderstood number ⌝ }
-        ensures after { λ _. ⌜ model (now (self .exit)) ≡ misread (model (now (self .entry))) ⌝ }
+    fn next_line(&self) -> u64
+        ensures { λ r. ⌜ r ≡ next-line (model (now (self .entry))) ⌝ }
     {
-        self.understood = false;
-        Reply::NotUnderstood(number)
+        self.lines.saturating_add(1)
+    }
+
+    // Does what a line asks, its ending left out. The line is not counted yet.
+    fn obey(&mut self, line: &[u8]) -> Result<Option<Reply>, AllocError>
+        ensures does { λ r. ⌜ made r (λ reply. Did (model (now (self .entry))) (request (now (line .entry))) reply (model (now (self .exit)))) ⌝ }
+        ensures refused { λ r. ⌜ refused r (λ _. model (now (self .exit)) ≡ model (now (self .entry))) ⌝ }
+    {
+        match read_line(line) {
+            Line::Silent => Ok(None),
+            Line::NotUnderstood => {
+                self.understood = false;
+                Ok(Some(Reply::NotUnderstood(self.next_line())))
+            }
+            Line::Asks(command) => self.run(command),
+            Line::Hypotheses => {
+                let numbers = numbers_after(self.heap, line)?;
+                self.append(numbers.as_slice())?;
+                Ok(None)
+            }
+            Line::Conclude => {
+                let citations = numbers_after(self.heap, line)?;
+                Ok(Some(self.conclude(citations.as_slice())))
+            }
+        }
     }
 
     // Runs the next line of a script, which is given with its ending if it has one, and answers what is to be printed.
     pub fn line(&mut self, text: &[u8]) -> Result<Option<Reply>, AllocError>
-        ensures answer { λ r. ⌜ made r (λ reply. Answered (model (now (self .entry))) (request (without-ending (now (text .entry)))) reply) ⌝ }
-        ensures after { λ r. ⌜ made r (λ _. model (now (self .exit)) ≡ following (model (now (self .entry))) (request (without-ending (now (text .entry))))) ⌝ }
+        ensures does { λ r. ⌜ made r (λ reply. Follows (model (now (self .entry))) (request (without-ending (now (text .entry)))) reply (model (now (self .exit)))) ⌝ }
         ensures refused { λ r. ⌜ refused r (λ _. model (now (self .exit)) ≡ model (now (self .entry))) ⌝ }
     {
-        let number = self.lines.saturating_add(1);
-        let line = without_ending(text);
-        let reply = match read_line(line) {
-            Line::Silent => None,
-            Line::NotUnderstood => Some(self.misread(number)),
-            Line::Asks(command) => self.run(command)?,
-            Line::Hypotheses => {
-                self.append(line)?;
-                None
-            }
-        };
+        let number = self.next_line();
+        let reply = self.obey(without_ending(text))?;
         self.lines = number;
         Ok(reply)
+    }
+
+    // Ends the hold with this number, if it is still in hand: lifted on the book that granted it, or else discarded.
+    pub fn close_hold(&mut self, h: usize) -> Option<Reply>
+        ensures answer { λ r. ⌜ r ≡ closed (model (now (self .entry))) h ⌝ }
+        ensures after { λ _. ⌜ model (now (self .exit)) ≡ closed-at (model (now (self .entry))) h ⌝ }
+    {
+        let held = mem::replace(self.holds.get_mut(h)?, InHand::Ended);
+        held.close(&mut self.books, h)
+    }
+
+    // Takes the session apart. Holds still in hand are ended, the last first.
+    pub fn end(self) {
+        let Session {
+            heap: _,
+            mut books,
+            current: _,
+            steps: _,
+            hypotheses: _,
+            mut holds,
+            lines: _,
+            understood: _,
+        } = self;
+        while let Some(held) = holds.pop() {
+            let _ = held.close(&mut books, holds.len());
+        }
+        holds.destroy_empty();
     }
 }

@@ -6,7 +6,7 @@ ghost use lib.ListN.{length};
 ghost use Rattle.std.specs.Of.Vec.{vec-items};
 ghost use Rattle.std.specs.Options.{Cases, isSome, mapped};
 ghost use Rattle.std.specs.Vec.{made};
-ghost use Rattle.script.specs.Words.{words, after-spaces, word-length, number, numbers, all-numbers};
+ghost use Rattle.script.specs.Words.{words, after-spaces, word-length, number, numbers, all-numbers, numbers-after};
 use std::alloc::AllocError;
 use std::alloc::Global;
 
@@ -117,4 +117,17 @@ pub(crate) fn all_numbers(heap: Global, text: &[u8]) -> Result<Option<Vec<u16>>,
         rest = after;
     }
     Ok(Some(all))
+}
+
+// The numbers after the first word of a line; none if a word after it is no number.
+pub(crate) fn numbers_after(heap: Global, line: &[u8]) -> Result<Vec<u16>, AllocError>
+    ensures { λ r. ⌜ made r (λ ns. vec-items ns ≡ numbers-after (words (now (line .entry)))) ⌝ }
+{
+    let Some((_, text)) = next_word(line) else {
+        return Ok(Vec::new(heap));
+    };
+    match all_numbers(heap, text)? {
+        Some(numbers) => Ok(numbers),
+        None => Ok(Vec::new(heap)),
+    }
 }

@@ -1,7 +1,7 @@
 // Derivations that are right and wrong, as scripts: at least one of each for every rule.
+use script::Session;
 use script::reply::Reply;
 use script::reply::ReplyDisplay;
-use script::session::Session;
 use std::alloc::AllocError;
 use std::test::*;
 
@@ -253,7 +253,8 @@ const TERMS: [(&str, &str); 18] = [
 ];
 
 // Sizes, ranges, places and numbers at their ends.
-const EDGES: [(&str, &str); 21] = [
+const EDGES: [(&str, &str); 22] = [
+    ("formula 11 1 0", "formula 20"),
     // 16 hypotheses, and 17
     (
         "hypotheses 2 3 4 5 6 7 8 9 10 11 12 13 14 15 16 19 20\nstep 1 2 0 16 0 0 0 0 0\ncheck",
@@ -343,13 +344,12 @@ const EDGES: [(&str, &str); 21] = [
     ),
 ];
 
-// A session with the vocabulary entered.
-fn with_vocabulary(rt: &LibcRuntime) -> Result<Session, AllocError> {
-    let mut session = Session::new(rt.alloc());
+// Enters the vocabulary, without looking at what is printed.
+fn enter_vocabulary(session: &mut Session) -> Result<(), AllocError> {
     for line in VOCABULARY {
         session.line(line.as_bytes())?;
     }
-    Ok(session)
+    Ok(())
 }
 
 // Runs the lines of a script, and answers what is printed for the last.
@@ -374,52 +374,70 @@ fn answers(
     }
 }
 
-#[test]
-fn rules_of_propositions(rt: LibcRuntime) -> Result<(), Fail> {
-    let mut session = with_vocabulary(&rt)?;
-    for (script, verdict) in PROPOSITIONS {
-        answers(&rt, &mut session, script, verdict)?;
+// Each script after the vocabulary, and what is printed for its last line.
+fn all_answer(rt: &LibcRuntime, session: &mut Session, table: &[(&str, &str)]) -> Result<(), Fail> {
+    enter_vocabulary(session)?;
+    for (script, verdict) in table {
+        answers(rt, session, script, verdict)?;
     }
     check(session.understood())
+}
+
+#[test]
+fn rules_of_propositions(rt: LibcRuntime) -> Result<(), Fail> {
+    let mut session = Session::new(rt.alloc());
+    let outcome = all_answer(&rt, &mut session, &PROPOSITIONS);
+    session.end();
+    outcome
 }
 
 #[test]
 fn rules_of_quantifiers_and_equality(rt: LibcRuntime) -> Result<(), Fail> {
-    let mut session = with_vocabulary(&rt)?;
-    for (script, verdict) in TERMS {
-        answers(&rt, &mut session, script, verdict)?;
-    }
-    check(session.understood())
+    let mut session = Session::new(rt.alloc());
+    let outcome = all_answer(&rt, &mut session, &TERMS);
+    session.end();
+    outcome
 }
 
 #[test]
 fn edges(rt: LibcRuntime) -> Result<(), Fail> {
-    let mut session = with_vocabulary(&rt)?;
-    answers(&rt, &mut session, "formula 11 1 0", "formula 20")?;
-    for (script, verdict) in EDGES {
-        answers(&rt, &mut session, script, verdict)?;
-    }
-    check(session.understood())
+    let mut session = Session::new(rt.alloc());
+    let outcome = all_answer(&rt, &mut session, &EDGES);
+    session.end();
+    outcome
 }
 
 // A derivation of so many steps, each {P} ⊢ P, with so many numbers in its list.
-fn sized(rt: &LibcRuntime, steps: u16, numbers: u16, expected: &str) -> Result<(), Fail> {
-    let mut session = with_vocabulary(rt)?;
+fn is_sized(
+    rt: &LibcRuntime,
+    session: &mut Session,
+    steps: u16,
+    numbers: u16,
+    expected: &str,
+) -> Result<(), Fail> {
     for _ in 0..steps {
         session.line(b"step 1 2 0 1 0 0 0 0 0")?;
     }
     for _ in 0..numbers {
         session.line(b"hypotheses 2")?;
     }
-    answers(rt, &mut session, "check", expected)
+    answers(rt, session, "check", expected)
+}
+
+fn all_are_sized(rt: &LibcRuntime, session: &mut Session) -> Result<(), Fail> {
+    enter_vocabulary(session)?;
+    is_sized(rt, session, 0, 0, "refused 20 derivation 0")?;
+    is_sized(rt, session, 256, 4096, "right")?;
+    is_sized(rt, session, 257, 1, "refused 20 derivation 0")?;
+    is_sized(rt, session, 1, 4097, "refused 20 derivation 0")
 }
 
 #[test]
 fn sizes(rt: LibcRuntime) -> Result<(), Fail> {
-    sized(&rt, 0, 0, "refused 20 derivation 0")?;
-    sized(&rt, 256, 4096, "right")?;
-    sized(&rt, 257, 1, "refused 20 derivation 0")?;
-    sized(&rt, 1, 4097, "refused 20 derivation 0")
+    let mut session = Session::new(rt.alloc());
+    let outcome = all_are_sized(&rt, &mut session);
+    session.end();
+    outcome
 }
 
 // The derivation belongs to the session: it waits for a book, is judged in the current one, and then begins anew.
@@ -446,11 +464,17 @@ const WRITTEN: [(&str, &str); 20] = [
     ("check", "refused 20 derivation 0"),
 ];
 
+fn is_written(rt: &LibcRuntime, session: &mut Session) -> Result<(), Fail> {
+    for (line, expected) in WRITTEN {
+        answers(rt, session, line, expected)?;
+    }
+    Ok(())
+}
+
 #[test]
 fn one_derivation_is_written(rt: LibcRuntime) -> Result<(), Fail> {
     let mut session = Session::new(rt.alloc());
-    for (line, expected) in WRITTEN {
-        answers(&rt, &mut session, line, expected)?;
-    }
-    Ok(())
+    let outcome = is_written(&rt, &mut session);
+    session.end();
+    outcome
 }

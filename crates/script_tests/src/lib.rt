@@ -2,4 +2,6 @@
 #[cfg(test)]
 mod derivations;
 #[cfg(test)]
+mod holds;
+#[cfg(test)]
 mod tests;

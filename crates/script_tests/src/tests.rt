@@ -1,5 +1,6 @@
 // Lines read one by one, and scripts run through a session.
 use calculus::Step;
+use script::Session;
 use script::command::Call;
 use script::command::CallDebug;
 use script::command::CallPartialEq;
@@ -7,12 +8,14 @@ use script::command::Command;
 use script::command::CommandDebug;
 use script::command::CommandDisplay;
 use script::command::CommandPartialEq;
+use script::command::Deed;
+use script::command::DeedDebug;
+use script::command::DeedPartialEq;
 use script::command::Line;
 use script::command::LineDebug;
 use script::command::LinePartialEq;
 use script::command::read_line;
 use script::reply::ReplyDisplay;
-use script::session::Session;
 use std::test::*;
 
 const STEP: Step = Step {
@@ -28,7 +31,7 @@ const STEP: Step = Step {
 };
 
 // The commands, with numbers at the ends of their range, spaces and leading zeros.
-const READ: [(&str, Command); 17] = [
+const READ: [(&str, Command); 25] = [
     ("book 0", Command::Book(0)),
     ("book 4294967295", Command::Book(4294967295)),
     ("use 65535", Command::Use(65535)),
@@ -55,6 +58,14 @@ const READ: [(&str, Command); 17] = [
     ("step 17 7 0 2 1 65535 4 5 8", Command::Step(STEP)),
     ("  step 017 7 00 2 1 65535 4 5  8 ", Command::Step(STEP)),
     ("check", Command::Check),
+    ("give 4", Command::Call(Call::Give(4))),
+    ("entry 511", Command::Call(Call::Entry(511))),
+    ("predicate 65535", Command::Call(Call::Predicate(65535))),
+    ("hold 1", Command::Hold(1)),
+    ("preview 0", Command::Deed(Deed::Preview, 0)),
+    ("lift 65535", Command::Deed(Deed::Lift, 65535)),
+    ("withdraw 2", Command::Deed(Deed::Withdraw, 2)),
+    ("  withdraw  002 ", Command::Deed(Deed::Withdraw, 2)),
 ];
 
 #[test]
@@ -92,7 +103,22 @@ fn lists_of_any_length_are_read() -> Result<(), Fail> {
     Ok(())
 }
 
-const NOT_UNDERSTOOD: [&[u8]; 37] = [
+const CITATIONS: [&str; 4] = [
+    "conclude",
+    "conclude 0 1",
+    "  conclude 65535 ",
+    "conclude 2 1 0 00",
+];
+
+#[test]
+fn citations_of_any_length_are_read() -> Result<(), Fail> {
+    for text in CITATIONS {
+        check_eq(read_line(text.as_bytes()), Line::Conclude)?;
+    }
+    Ok(())
+}
+
+const NOT_UNDERSTOOD: [&[u8]; 49] = [
     b"book",
     b"book 4294967296",
     b"book 99999999999999999999999999999999",
@@ -130,6 +156,18 @@ const NOT_UNDERSTOOD: [&[u8]; 37] = [
     b"hypotheses x",
     b"hypotheses 1 65536 2",
     b"hypotheses 1 2 -3",
+    b"give",
+    b"give 1 2",
+    b"entry",
+    b"predicate",
+    b"predicate 65536",
+    b"hold",
+    b"hold 0 1",
+    b"preview",
+    b"lift 0 0",
+    b"withdraw x",
+    b"conclude x",
+    b"conclude 0 65536",
 ];
 
 #[test]
@@ -174,25 +212,43 @@ const SCRIPT: [(&[u8], &str); 30] = [
     (b"carrier\r\n", "type 2"),
 ];
 
-#[test]
-fn scripts_are_answered(rt: LibcRuntime) -> Result<(), Fail> {
-    let mut session = Session::new(rt.alloc());
-    for (text, expected) in SCRIPT {
+fn all_answered(
+    rt: &LibcRuntime,
+    session: &mut Session,
+    script: &[(&[u8], &str)],
+) -> Result<(), Fail> {
+    for (text, expected) in script {
         match session.line(text)? {
-            Some(reply) => check_eq(reply.to_string(rt.alloc())?.as_str(), expected)?,
-            None => check_eq("", expected)?,
+            Some(reply) => check_eq(reply.to_string(rt.alloc())?.as_str(), *expected)?,
+            None => check_eq("", *expected)?,
         }
     }
-    check(!session.understood())
+    Ok(())
 }
 
 #[test]
-fn an_understood_script_is_said_to_be_one(rt: LibcRuntime) -> Result<(), Fail> {
+fn scripts_are_answered(rt: LibcRuntime) -> Result<(), Fail> {
     let mut session = Session::new(rt.alloc());
+    let outcome = all_answered(&rt, &mut session, &SCRIPT);
+    let understood = session.understood();
+    session.end();
+    outcome?;
+    check(!understood)
+}
+
+fn is_understood(session: &mut Session) -> Result<(), Fail> {
     for text in SILENT {
         check(session.line(text.as_bytes())?.is_none())?;
     }
     session.line(b"book 1")?;
     session.line(b"formula 1 2 3")?;
     check(session.understood())
+}
+
+#[test]
+fn an_understood_script_is_said_to_be_one(rt: LibcRuntime) -> Result<(), Fail> {
+    let mut session = Session::new(rt.alloc());
+    let outcome = is_understood(&mut session);
+    session.end();
+    outcome
 }
