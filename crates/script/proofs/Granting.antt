@@ -10,8 +10,8 @@ use Rattle.std.specs.declared.result.Result.{Result}
 use Rattle.std.specs.declared.result.Result.the-variants.{Ok, Err}
 use Rattle.book.specs.declared.hold.Refused.{Refused}
 use Rattle.book.specs.Books.{Model, lift, withdraw}
-use Rattle.script.specs.declared.command.Deed.{Deed}
-use Rattle.script.specs.declared.command.Deed.the-variants.{Preview, Lift, Withdraw}
+use Rattle.script.specs.declared.command.HoldCall.{HoldCall}
+use Rattle.script.specs.declared.command.HoldCall.the-variants.{Preview, Lift, Withdraw}
 use Rattle.script.specs.declared.hand.InHand.{InHand}
 use Rattle.script.specs.declared.hand.InHand.the-variants.{Held, Ended}
 use Rattle.script.specs.Hands.{GrantedBy, AllGranted, granted-by, all-granted, undergo, lifted, withdrawn}
@@ -77,7 +77,7 @@ module _ (n : ℕ) where
   withdrawn-granted (Err e) x b g = g
 
   -- what is done with a hold leaves it to the book that granted it
-  pub still-granted : (d : Deed) (b : Model) (x : InHand) → GrantedBy n x → GrantedBy n (undergo d b x .hand)
+  pub still-granted : (d : HoldCall) (b : Model) (x : InHand) → GrantedBy n x → GrantedBy n (undergo d b x .hand)
   still-granted Preview b Ended g = tt
   still-granted Lift b Ended g = tt
   still-granted Withdraw b Ended g = tt

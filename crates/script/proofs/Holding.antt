@@ -12,13 +12,13 @@ use Rattle.entries.specs.declared.refusal.Refusal.{Refusal}
 use Rattle.book.specs.declared.hold.Hold.{Hold}
 use Rattle.book.specs.Books.{Model, hold}
 use Rattle.book.specs.Runs.{concludes, Does}
-use Rattle.script.specs.declared.command.Deed.{Deed}
+use Rattle.script.specs.declared.command.HoldCall.{HoldCall}
 use Rattle.script.specs.declared.hand.InHand.{InHand}
 use Rattle.script.specs.declared.hand.InHand.the-variants.{Ended}
 use Rattle.script.specs.declared.reply.Reply.{Reply}
 use Rattle.script.specs.Books.{entered}
 use Rattle.script.specs.Hands.{undergo, closed-reply, closed-books}
-use Rattle.script.specs.Sessions.{Session, current-book, with-books, with-book, with-holds, with-derivation, granting-reply, granting-hand, held-reply-by, held-reply, held-by, deed-reply-by, deed-reply, dealt-by, Concludes, closed-reply-of, closed-of, closed, closed-at}
+use Rattle.script.specs.Sessions.{Session, current-book, with-books, with-book, with-holds, with-derivation, granting-reply, granting-hand, held-reply-by, held-reply, held-by, hold-call-reply-by, hold-call-reply, hold-called, Concludes, closed-reply-of, closed-of, closed, closed-at}
 
 module _ (s : Session) (e : ℕ) (b : Model) (at : current-book s ≡ Some b) (o : Result Hold Refusal) (is : o ≡ hold b e .answer) where
   pub granted-reply : (n : ℕ) → n ≡ length (s .holds) → granting-reply n o ≡ held-reply s e
@@ -30,21 +30,21 @@ module _ (s : Session) (e : ℕ) (b : Model) (at : current-book s ≡ Some b) (o
       ∙ ap (with-holds (with-book s (hold b e .after))) (g ∙ ap (λ a. s .holds ++ granting-hand (s .current) a) is)
       ∙ sym (ap (held-by s e) at)
 
-module _ (s : Session) (d : Deed) (h : ℕ) (b : Model) (at : current-book s ≡ Some b) where
-  pub dealt-reply : (x : InHand) → nth (s .holds) h ≡ Some x → undergo d b x .reply ≡ deed-reply s d h
-  dealt-reply x f = sym (ap (λ o. deed-reply-by d o (nth (s .holds) h)) at ∙ ap (deed-reply-by d (Some b)) f)
+module _ (s : Session) (d : HoldCall) (h : ℕ) (b : Model) (at : current-book s ≡ Some b) where
+  pub some-reply : (x : InHand) → nth (s .holds) h ≡ Some x → undergo d b x .reply ≡ hold-call-reply s d h
+  some-reply x f = sym (ap (λ o. hold-call-reply-by d o (nth (s .holds) h)) at ∙ ap (hold-call-reply-by d (Some b)) f)
 
-  pub dealt-after : (x y : InHand) (bs : List Model) → nth (s .holds) h ≡ Some x → y ≡ undergo d b x .hand → bs ≡ set (s .books) (s .current) (undergo d b x .book) → with-holds (with-books s bs (s .current)) (set (s .holds) h y) ≡ dealt-by s d h (current-book s) (nth (s .holds) h)
-  dealt-after x y bs f g l =
+  pub some-after : (x y : InHand) (bs : List Model) → nth (s .holds) h ≡ Some x → y ≡ undergo d b x .hand → bs ≡ set (s .books) (s .current) (undergo d b x .book) → with-holds (with-books s bs (s .current)) (set (s .holds) h y) ≡ hold-called s d h (current-book s) (nth (s .holds) h)
+  some-after x y bs f g l =
       ap (λ m. with-holds (with-books s m (s .current)) (set (s .holds) h y)) l
       ∙ ap (λ z. with-holds (with-book s (undergo d b x .book)) (set (s .holds) h z)) g
-      ∙ sym (ap (λ o. dealt-by s d h o (nth (s .holds) h)) at ∙ ap (dealt-by s d h (Some b)) f)
+      ∙ sym (ap (λ o. hold-called s d h o (nth (s .holds) h)) at ∙ ap (hold-called s d h (Some b)) f)
 
-  pub none-reply : nth (s .holds) h ≡ None → deed-reply-by d (Some b) None ≡ deed-reply s d h
-  none-reply f = sym (ap (λ o. deed-reply-by d o (nth (s .holds) h)) at ∙ ap (deed-reply-by d (Some b)) f)
+  pub none-reply : nth (s .holds) h ≡ None → hold-call-reply-by d (Some b) None ≡ hold-call-reply s d h
+  none-reply f = sym (ap (λ o. hold-call-reply-by d o (nth (s .holds) h)) at ∙ ap (hold-call-reply-by d (Some b)) f)
 
-  pub none-after : nth (s .holds) h ≡ None → s ≡ dealt-by s d h (current-book s) (nth (s .holds) h)
-  none-after f = sym (ap (λ o. dealt-by s d h o (nth (s .holds) h)) at ∙ ap (dealt-by s d h (Some b)) f)
+  pub none-after : nth (s .holds) h ≡ None → s ≡ hold-called s d h (current-book s) (nth (s .holds) h)
+  none-after f = sym (ap (λ o. hold-called s d h o (nth (s .holds) h)) at ∙ ap (hold-called s d h (Some b)) f)
 
 -- a new derivation is begun
 pub emptied : (s : Session) (bs cs : List Model) (xs : List Step) (hs : List ℕ) → bs ≡ cs → xs ≡ [] → hs ≡ [] → with-derivation (with-books s bs (s .current)) xs hs ≡ with-derivation (with-books s cs (s .current)) [] []

@@ -29,15 +29,15 @@ use Rattle.script.specs.declared.command.Call.{Call}
 use Rattle.script.specs.declared.command.Call.the-variants.{Carrier, Product, Variable, Set, Formula, Free, Substitution, Give, Entry, Predicate}
 use Rattle.script.specs.declared.command.Command.{Command}
 use Rattle.script.specs.declared.command.Command.the-variants as commands
-use Rattle.script.specs.declared.command.Deed.{Deed}
-use Rattle.script.specs.declared.command.Deed.the-variants.{Preview, Lift, Withdraw}
+use Rattle.script.specs.declared.command.HoldCall.{HoldCall}
+use Rattle.script.specs.declared.command.HoldCall.the-variants.{Preview, Lift, Withdraw}
 use Rattle.script.specs.declared.hand.InHand.{InHand}
 use Rattle.script.specs.declared.hand.InHand.the-variants.{Held, Ended}
 use Rattle.script.specs.declared.reply.Reply.{Reply}
 use Rattle.script.specs.Books.{after}
 use Rattle.script.specs.Commands.{Request, silent, not-understood, asks, append, draw, request, without-ending}
 use Rattle.script.specs.Hands.{undergo, lifted, withdrawn}
-use Rattle.script.specs.Sessions.{Session, start, number, chosen, called, held-by, dealt-by, done, current-book, with-book, Concludes, Concluded, Did, Follows, After, Others-stay, Numbers-stay, Always-current, Always-run, Always-well-formed}
+use Rattle.script.specs.Sessions.{Session, start, number, chosen, called, held-by, hold-called, done, current-book, with-book, Concludes, Concluded, Did, Follows, After, Others-stay, Numbers-stay, Always-current, Always-run, Always-well-formed}
 use Rattle.script.specs.Words.{Bytes}
 
 -- the book b′ comes of one call on the book b, or is b
@@ -72,13 +72,13 @@ withdrawn-book : (o : Result (ℕ × ℕ) Refused) (x : InHand) (b : Model) → 
 withdrawn-book (Ok p) x b = refl
 withdrawn-book (Err e) x b = refl
 
-goes-deed : (d : Deed) (b : Model) (x : InHand) → Goes b (undergo d b x .book)
-goes-deed Preview b Ended = stays
-goes-deed Lift b Ended = stays
-goes-deed Withdraw b Ended = stays
-goes-deed Preview b (Held x k) = stays
-goes-deed Lift b (Held x k) = does (lifts x (lift b x .answer)) (refl, lifted-book (lift b x .answer) (Held x k) (lift b x .after))
-goes-deed Withdraw b (Held x k) = does (withdraws x (withdraw b x .answer)) (refl, withdrawn-book (withdraw b x .answer) (Held x k) (withdraw b x .after))
+goes-hold-call : (d : HoldCall) (b : Model) (x : InHand) → Goes b (undergo d b x .book)
+goes-hold-call Preview b Ended = stays
+goes-hold-call Lift b Ended = stays
+goes-hold-call Withdraw b Ended = stays
+goes-hold-call Preview b (Held x k) = stays
+goes-hold-call Lift b (Held x k) = does (lifts x (lift b x .answer)) (refl, lifted-book (lift b x .answer) (Held x k) (lift b x .after))
+goes-hold-call Withdraw b (Held x k) = does (withdraws x (withdraw b x .answer)) (refl, withdrawn-book (withdraw b x .answer) (Held x k) (withdraw b x .after))
 
 turns-call : (s : Session) (c : Call) (o : Option Model) → current-book s ≡ o → Turns s (called s c o .books)
 turns-call s c None e = kept
@@ -88,10 +88,10 @@ turns-hold : (s : Session) (n : ℕ) (o : Option Model) → current-book s ≡ o
 turns-hold s n None e = kept
 turns-hold s n (Some b) e = gone b (hold b n .after) e (does (holds n (hold b n .answer)) (refl, refl))
 
-turns-deed : (s : Session) (d : Deed) (h : ℕ) (o : Option Model) (x : Option InHand) → current-book s ≡ o → Turns s (dealt-by s d h o x .books)
-turns-deed s d h None x e = kept
-turns-deed s d h (Some b) None e = kept
-turns-deed s d h (Some b) (Some x) e = gone b (undergo d b x .book) e (goes-deed d b x)
+turns-hold-call : (s : Session) (d : HoldCall) (h : ℕ) (o : Option Model) (x : Option InHand) → current-book s ≡ o → Turns s (hold-called s d h o x .books)
+turns-hold-call s d h None x e = kept
+turns-hold-call s d h (Some b) None e = kept
+turns-hold-call s d h (Some b) (Some x) e = gone b (undergo d b x .book) e (goes-hold-call d b x)
 
 turns-command : (s : Session) (c : Command) → Turns s (done s c .books)
 turns-command s (commands.Book n) = begun n
@@ -100,7 +100,7 @@ turns-command s (commands.Call c) = turns-call s c (current-book s) refl
 turns-command s (commands.Step x) = kept
 turns-command s commands.Check = kept
 turns-command s (commands.Hold e) = turns-hold s e (current-book s) refl
-turns-command s (commands.Deed d h) = turns-deed s d h (current-book s) (nth (s .holds) h) refl
+turns-command s (commands.HoldCall d h) = turns-hold-call s d h (current-book s) (nth (s .holds) h) refl
 
 turns-conclusion : (s t : Session) (ns : List ℕ) (o : Option Model) (r : Reply) → current-book s ≡ o → Concludes s ns o r t → Turns s (t .books)
 turns-conclusion s t ns None r e c = subst (λ u. Turns s (u .books)) (sym (c .1)) kept
@@ -270,10 +270,10 @@ current-hold : (s : Session) (e : ℕ) (o : Option Model) → Current s → Curr
 current-hold s e None h = h
 current-hold s e (Some b) h = put-one s (hold b e .after) h
 
-current-deed : (s : Session) (d : Deed) (k : ℕ) (o : Option Model) (x : Option InHand) → Current s → Current (dealt-by s d k o x)
-current-deed s d k None x h = h
-current-deed s d k (Some b) None h = h
-current-deed s d k (Some b) (Some x) h = put-one s (undergo d b x .book) h
+current-hold-call : (s : Session) (d : HoldCall) (k : ℕ) (o : Option Model) (x : Option InHand) → Current s → Current (hold-called s d k o x)
+current-hold-call s d k None x h = h
+current-hold-call s d k (Some b) None h = h
+current-hold-call s d k (Some b) (Some x) h = put-one s (undergo d b x .book) h
 
 current-command : (s : Session) (c : Command) → Current s → Current (done s c)
 current-command s (commands.Book n) h = λ some. omega (arith, length-append (s .books) (new-book n ∷ []))
@@ -282,7 +282,7 @@ current-command s (commands.Call c) h = current-call s c (current-book s) h
 current-command s (commands.Step x) h = h
 current-command s commands.Check h = h
 current-command s (commands.Hold e) h = current-hold s e (current-book s) h
-current-command s (commands.Deed d k) h = current-deed s d k (current-book s) (nth (s .holds) k) h
+current-command s (commands.HoldCall d k) h = current-hold-call s d k (current-book s) (nth (s .holds) k) h
 
 current-conclusion : (s t : Session) (ns : List ℕ) (o : Option Model) (r : Reply) → Concludes s ns o r t → Current s → Current t
 current-conclusion s t ns None r c h = subst Current (sym (c .1)) h

@@ -18,9 +18,9 @@ use Rattle.std.proofs.shelf.Decimals.{decimal-some, digits-decimal, value-decim
 use Rattle.script.specs.declared.command.Call.the-variants as calls
 use Rattle.script.specs.declared.command.Command.the-variants as commands
 use Rattle.script.specs.declared.command.CallVerb.the-variants.{Carrier, Product, Variable, Set, Formula, Free, Substitution, Give, Entry, Predicate}
-use Rattle.script.specs.declared.command.Deed.the-variants.{Preview, Lift, Withdraw}
+use Rattle.script.specs.declared.command.HoldCall.the-variants.{Preview, Lift, Withdraw}
 use Rattle.script.specs.declared.command.Verb.{Verb}
-use Rattle.script.specs.declared.command.Verb.the-variants.{Book, Use, Call, Step, Check, Hold, Deed}
+use Rattle.script.specs.declared.command.Verb.the-variants.{Book, Use, Call, Step, Check, Hold, HoldCall}
 use Rattle.script.specs.Commands.{Request, asks, append, draw, request, request-words, understood, listed, of-verb, verb-named, list-word, list-text, conclude-word, conclude-text, text-of, word-of, spaced, bits, count, with-numbers, step-numbers, Within, Reads-back, Lists-read-back}
 use Rattle.script.specs.Words.{Bytes, words, lengthen, read-digits, bounded, number, numbers, both, all-numbers}
 use Rattle.script.proofs.Splitting.{chosen}
@@ -118,9 +118,9 @@ some-word (Call Predicate) = omega arith
 some-word Step = omega arith
 some-word Check = omega arith
 some-word Hold = omega arith
-some-word (Deed Preview) = omega arith
-some-word (Deed Lift) = omega arith
-some-word (Deed Withdraw) = omega arith
+some-word (HoldCall Preview) = omega arith
+some-word (HoldCall Lift) = omega arith
+some-word (HoldCall Withdraw) = omega arith
 
 solid-word : (v : Verb) → Solid (word-of v)
 solid-word Book = search needs
@@ -138,9 +138,9 @@ solid-word (Call Predicate) = search needs
 solid-word Step = search needs
 solid-word Check = search needs
 solid-word Hold = search needs
-solid-word (Deed Preview) = search needs
-solid-word (Deed Lift) = search needs
-solid-word (Deed Withdraw) = search needs
+solid-word (HoldCall Preview) = search needs
+solid-word (HoldCall Lift) = search needs
+solid-word (HoldCall Withdraw) = search needs
 
 text-words : (w : Bytes) (ns : List ℕ) → 0 < length w → Solid w → Small ns → words (w ++ spaced ns) ≡ w ∷ map decimal ns
 text-words w ns l h s = digits-then w (spaced ns) l h (spaced-apart ns) ∙ ap (λ ws. w ∷ ws) (spaced-words ns s)
@@ -161,9 +161,9 @@ first-read (Call Predicate) ns = refl
 first-read Step ns = refl
 first-read Check ns = refl
 first-read Hold ns = refl
-first-read (Deed Preview) ns = refl
-first-read (Deed Lift) ns = refl
-first-read (Deed Withdraw) ns = refl
+first-read (HoldCall Preview) ns = refl
+first-read (HoldCall Lift) ns = refl
+first-read (HoldCall Withdraw) ns = refl
 
 no-list : (v : Verb) → (sameBytes (word-of v) list-word ≡ false) × (sameBytes (word-of v) conclude-word ≡ false)
 no-list Book = (refl, refl)
@@ -181,9 +181,9 @@ no-list (Call Predicate) = (refl, refl)
 no-list Step = (refl, refl)
 no-list Check = (refl, refl)
 no-list Hold = (refl, refl)
-no-list (Deed Preview) = (refl, refl)
-no-list (Deed Lift) = (refl, refl)
-no-list (Deed Withdraw) = (refl, refl)
+no-list (HoldCall Preview) = (refl, refl)
+no-list (HoldCall Lift) = (refl, refl)
+no-list (HoldCall Withdraw) = (refl, refl)
 
 known : (v : Verb) → verb-named (word-of v) ≡ Some v
 known Book = refl
@@ -201,9 +201,9 @@ known (Call Predicate) = refl
 known Step = refl
 known Check = refl
 known Hold = refl
-known (Deed Preview) = refl
-known (Deed Lift) = refl
-known (Deed Withdraw) = refl
+known (HoldCall Preview) = refl
+known (HoldCall Lift) = refl
+known (HoldCall Withdraw) = refl
 
 few-bits : (v : Verb) → 2 ^ bits v ≤ 2 ^ 64
 few-bits Book = omega arith
@@ -212,7 +212,7 @@ few-bits (Call v) = omega arith
 few-bits Step = omega arith
 few-bits Check = omega arith
 few-bits Hold = omega arith
-few-bits (Deed d) = omega arith
+few-bits (HoldCall d) = omega arith
 
 small : (k : ℕ) (ns : List ℕ) → 2 ^ k ≤ 2 ^ 64 → Within k ns → Small ns
 small k [] l h = tt
@@ -245,7 +245,7 @@ reads-back (commands.Call (calls.Predicate p)) h = read-verb (Call Predicate) (p
 reads-back (commands.Step x) h = read-verb Step (step-numbers x) refl h
 reads-back commands.Check h = read-verb Check [] refl h
 reads-back (commands.Hold e) h = read-verb Hold (e ∷ []) refl h
-reads-back (commands.Deed d k) h = read-verb (Deed d) (k ∷ []) refl h
+reads-back (commands.HoldCall d k) h = read-verb (HoldCall d) (k ∷ []) refl h
 
 all-written : (asking : List ℕ → Request) (ns : List ℕ) → Within 16 ns → Small ns → listed asking (all-numbers (map decimal ns)) ≡ asking ns
 all-written asking ns h s =

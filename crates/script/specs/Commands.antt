@@ -18,8 +18,8 @@ use Rattle.script.specs.declared.command.CallVerb.{CallVerb}
 use Rattle.script.specs.declared.command.CallVerb.the-variants.{Carrier, Product, Variable, Set, Formula, Free, Substitution, Give, Entry, Predicate}
 use Rattle.script.specs.declared.command.Command.{Command}
 use Rattle.script.specs.declared.command.Command.the-variants as commands
-use Rattle.script.specs.declared.command.Deed.{Deed}
-use Rattle.script.specs.declared.command.Deed.the-variants.{Preview, Lift, Withdraw}
+use Rattle.script.specs.declared.command.HoldCall.{HoldCall}
+use Rattle.script.specs.declared.command.HoldCall.the-variants.{Preview, Lift, Withdraw}
 use Rattle.script.specs.declared.command.Line.{Line}
 use Rattle.script.specs.declared.command.Line.the-variants as lines
 use Rattle.script.specs.declared.command.Verb.{Verb}
@@ -56,10 +56,10 @@ call-word Give = codes "give"
 call-word Entry = codes "entry"
 call-word Predicate = codes "predicate"
 
-abbrev pub deed-word : Deed → Bytes
-deed-word Preview = codes "preview"
-deed-word Lift = codes "lift"
-deed-word Withdraw = codes "withdraw"
+abbrev pub hold-call-word : HoldCall → Bytes
+hold-call-word Preview = codes "preview"
+hold-call-word Lift = codes "lift"
+hold-call-word Withdraw = codes "withdraw"
 
 abbrev pub word-of : Verb → Bytes
 word-of verb.Book = codes "book"
@@ -68,7 +68,7 @@ word-of (verb.Call v) = call-word v
 word-of verb.Step = codes "step"
 word-of verb.Check = codes "check"
 word-of verb.Hold = codes "hold"
-word-of (verb.Deed d) = deed-word d
+word-of (verb.HoldCall d) = hold-call-word d
 
 abbrev pub verbs : List Verb
 verbs =
@@ -76,7 +76,7 @@ verbs =
     ∷ verb.Call Carrier ∷ verb.Call Product ∷ verb.Call Variable ∷ verb.Call Set ∷ verb.Call Formula ∷ verb.Call Free ∷ verb.Call Substitution
     ∷ verb.Call Give ∷ verb.Call Entry ∷ verb.Call Predicate
     ∷ verb.Step ∷ verb.Check
-    ∷ verb.Hold ∷ verb.Deed Preview ∷ verb.Deed Lift ∷ verb.Deed Withdraw ∷ []
+    ∷ verb.Hold ∷ verb.HoldCall Preview ∷ verb.HoldCall Lift ∷ verb.HoldCall Withdraw ∷ []
 
 abbrev pub one-named : Bytes → List Verb → Option Verb
 one-named w [] = None
@@ -105,7 +105,7 @@ count (verb.Call v) = call-count v
 count verb.Step = 9
 count verb.Check = 0
 count verb.Hold = 1
-count (verb.Deed d) = 1
+count (verb.HoldCall d) = 1
 
 -- how many bits each of them has
 abbrev pub bits : Verb → ℕ
@@ -115,7 +115,7 @@ bits (verb.Call v) = 16
 bits verb.Step = 16
 bits verb.Check = 16
 bits verb.Hold = 16
-bits (verb.Deed d) = 16
+bits (verb.HoldCall d) = 16
 
 abbrev at : List ℕ → ℕ → ℕ
 at ns i = getD ns i 0
@@ -154,7 +154,7 @@ with-numbers (verb.Call v) ns = commands.Call (call-with v ns)
 with-numbers verb.Step ns = commands.Step (step-with ns)
 with-numbers verb.Check ns = commands.Check
 with-numbers verb.Hold ns = commands.Hold (at ns 0)
-with-numbers (verb.Deed d) ns = commands.Deed d (at ns 0)
+with-numbers (verb.HoldCall d) ns = commands.HoldCall d (at ns 0)
 
 abbrev pub call-of : CallVerb → List Bytes → Option Call
 call-of v ws = mapped (call-with v) (numbers 16 (call-count v) ws)
@@ -258,7 +258,7 @@ verb-of (commands.Call c) = verb.Call (call-verb c)
 verb-of (commands.Step x) = verb.Step
 verb-of commands.Check = verb.Check
 verb-of (commands.Hold e) = verb.Hold
-verb-of (commands.Deed d h) = verb.Deed d
+verb-of (commands.HoldCall d h) = verb.HoldCall d
 
 abbrev pub numbers-of : Command → List ℕ
 numbers-of (commands.Book n) = n ∷ []
@@ -267,7 +267,7 @@ numbers-of (commands.Call c) = call-numbers c
 numbers-of (commands.Step x) = step-numbers x
 numbers-of commands.Check = []
 numbers-of (commands.Hold e) = e ∷ []
-numbers-of (commands.Deed d h) = h ∷ []
+numbers-of (commands.HoldCall d h) = h ∷ []
 
 -- the line that asks for a call, and for a command
 abbrev pub call-text : Call → Bytes

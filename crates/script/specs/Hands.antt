@@ -16,8 +16,8 @@ use Rattle.book.specs.declared.hold.Refused.{Refused}
 use Rattle.book.specs.declared.store.Book.{Book}
 use Rattle.book.specs.Books.{Model, preview, lift, withdraw}
 use Rattle.book.specs.View.{model}
-use Rattle.script.specs.declared.command.Deed.{Deed}
-use Rattle.script.specs.declared.command.Deed.the-variants.{Preview, Lift, Withdraw}
+use Rattle.script.specs.declared.command.HoldCall.{HoldCall}
+use Rattle.script.specs.declared.command.HoldCall.the-variants.{Preview, Lift, Withdraw}
 use Rattle.script.specs.declared.hand.InHand.{InHand}
 use Rattle.script.specs.declared.hand.InHand.the-variants.{Held, Ended}
 use Rattle.script.specs.declared.reply.Reply.{Reply}
@@ -43,7 +43,7 @@ withdrawn (Ok p) was b = record { reply = replies.Fell (p .0) (p .1); book = b; 
 withdrawn (Err e) was b = record { reply = replies.Refused (notice (e .refusal)); book = b; hand = was }
 
 -- what is done with a hold, on a book
-abbrev pub undergo : Deed → Model → InHand → Outcome
+abbrev pub undergo : HoldCall → Model → InHand → Outcome
 undergo d b Ended = record { reply = replies.NoSuchHold; book = b; hand = Ended }
 undergo Preview b (Held x k) = record { reply = foretold (preview b x); book = b; hand = Held x k }
 undergo Lift b (Held x k) = lifted (lift b x .answer) (Held x k) (lift b x .after)

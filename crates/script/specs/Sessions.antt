@@ -25,7 +25,7 @@ use Rattle.book.specs.Runs.{Event, Run}
 use Rattle.script.specs.declared.command.Call.{Call}
 use Rattle.script.specs.declared.command.Command.{Command}
 use Rattle.script.specs.declared.command.Command.the-variants as commands
-use Rattle.script.specs.declared.command.Deed.{Deed}
+use Rattle.script.specs.declared.command.HoldCall.{HoldCall}
 use Rattle.script.specs.declared.hand.InHand.{InHand}
 use Rattle.script.specs.declared.hand.InHand.the-variants.{Held, Ended}
 use Rattle.script.specs.declared.reply.Reply.{Reply}
@@ -143,18 +143,18 @@ abbrev pub held-reply : Session → ℕ → Reply
 held-reply s e = held-reply-by s e (current-book s)
 
 -- what is done with the hold h in hand, by a book
-abbrev pub deed-reply-by : Deed → Option Model → Option InHand → Reply
-deed-reply-by d None x = replies.NoSuchBook
-deed-reply-by d (Some b) None = replies.NoSuchHold
-deed-reply-by d (Some b) (Some x) = undergo d b x .reply
+abbrev pub hold-call-reply-by : HoldCall → Option Model → Option InHand → Reply
+hold-call-reply-by d None x = replies.NoSuchBook
+hold-call-reply-by d (Some b) None = replies.NoSuchHold
+hold-call-reply-by d (Some b) (Some x) = undergo d b x .reply
 
-abbrev pub dealt-by : Session → Deed → ℕ → Option Model → Option InHand → Session
-dealt-by s d h None x = s
-dealt-by s d h (Some b) None = s
-dealt-by s d h (Some b) (Some x) = with-holds (with-book s (undergo d b x .book)) (set (s .holds) h (undergo d b x .hand))
+abbrev pub hold-called : Session → HoldCall → ℕ → Option Model → Option InHand → Session
+hold-called s d h None x = s
+hold-called s d h (Some b) None = s
+hold-called s d h (Some b) (Some x) = with-holds (with-book s (undergo d b x .book)) (set (s .holds) h (undergo d b x .hand))
 
-abbrev pub deed-reply : Session → Deed → ℕ → Reply
-deed-reply s d h = deed-reply-by d (current-book s) (nth (s .holds) h)
+abbrev pub hold-call-reply : Session → HoldCall → ℕ → Reply
+hold-call-reply s d h = hold-call-reply-by d (current-book s) (nth (s .holds) h)
 
 -- r is the reply to a command, if it has one
 abbrev pub Replies : Session → Command → Option Reply → Type 0
@@ -164,7 +164,7 @@ Replies s (commands.Call c) r = (reply : Reply) × (r ≡ Some reply) × Passed 
 Replies s (commands.Step x) r = r ≡ None
 Replies s commands.Check r = (reply : Reply) × (r ≡ Some reply) × Tried s reply
 Replies s (commands.Hold e) r = r ≡ Some (held-reply s e)
-Replies s (commands.Deed d h) r = r ≡ Some (deed-reply s d h)
+Replies s (commands.HoldCall d h) r = r ≡ Some (hold-call-reply s d h)
 
 -- the session after a command
 abbrev pub done : Session → Command → Session
@@ -174,7 +174,7 @@ done s (commands.Call c) = called s c (current-book s)
 done s (commands.Step x) = with-derivation s (s .steps ++ x ∷ []) (s .hypotheses)
 done s commands.Check = with-derivation s (left (current-book s) (s .steps)) (left (current-book s) (s .hypotheses))
 done s (commands.Hold e) = held-by s e (current-book s)
-done s (commands.Deed d h) = dealt-by s d h (current-book s) (nth (s .holds) h)
+done s (commands.HoldCall d h) = hold-called s d h (current-book s) (nth (s .holds) h)
 
 -- the session after numbers were appended to the hypotheses
 abbrev pub appended : Session → List ℕ → Session

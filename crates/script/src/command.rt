@@ -4,7 +4,7 @@ ghost use mathlib.Core.Path.{_≡_};
 ghost use Rattle.std.specs.declared.option.Option.the-variants.{Some};
 ghost use Rattle.std.specs.shelf.Text.{sameBytes};
 ghost use Rattle.script.specs.Words.{words, all-numbers};
-ghost use Rattle.script.specs.Commands.{call-word, word-of, deed-word, verb-named, command, only-number, call-of, step-of, command-of, list-line, without-ending, request, request-words, line-of, call-text, command-text};
+ghost use Rattle.script.specs.Commands.{call-word, word-of, hold-call-word, verb-named, command, only-number, call-of, step-of, command-of, list-line, without-ending, request, request-words, line-of, call-text, command-text};
 use crate::words::are_numbers;
 use crate::words::next_word;
 use crate::words::number;
@@ -29,9 +29,9 @@ pub enum Call {
     Predicate(u16),
 }
 
-// What is done with a hold in hand.
+// A call that is made with a hold.
 #[derive(Clone, Copy, PartialEq, Eq, Debug)]
-pub enum Deed {
+pub enum HoldCall {
     Preview,
     Lift,
     Withdraw,
@@ -45,7 +45,7 @@ pub enum Command {
     Step(Step),
     Check,
     Hold(u16),
-    Deed(Deed, u16),
+    HoldCall(HoldCall, u16),
 }
 
 // What a line asks. A line of hypotheses or of citations is read for its numbers when it is run.
@@ -82,7 +82,7 @@ enum Verb {
     Step,
     Check,
     Hold,
-    Deed(Deed),
+    HoldCall(HoldCall),
 }
 
 pub impl fmt::Display for Call as CallDisplay {
@@ -104,14 +104,14 @@ pub impl fmt::Display for Call as CallDisplay {
     }
 }
 
-pub impl fmt::Display for Deed as DeedDisplay {
-    ghost shown = { λ d. Some (deed-word d) };
+pub impl fmt::Display for HoldCall as HoldCallDisplay {
+    ghost shown = { λ d. Some (hold-call-word d) };
 
     fn fmt<W: fmt::Write>(&self, f: &mut fmt::Formatter<W>) -> fmt::Result {
         match self {
-            Deed::Preview => f.write_str("preview"),
-            Deed::Lift => f.write_str("lift"),
-            Deed::Withdraw => f.write_str("withdraw"),
+            HoldCall::Preview => f.write_str("preview"),
+            HoldCall::Lift => f.write_str("lift"),
+            HoldCall::Withdraw => f.write_str("withdraw"),
         }
     }
 }
@@ -131,19 +131,19 @@ pub impl fmt::Display for Command as CommandDisplay {
             ),
             Command::Check => f.write_str("check"),
             Command::Hold(e) => write!(f, "hold {e}"),
-            Command::Deed(deed, h) => write!(f, "{deed} {h}"),
+            Command::HoldCall(call, h) => write!(f, "{call} {h}"),
         }
     }
 }
 
-impl Deed {
+impl HoldCall {
     fn word(self) -> &'static [u8]
-        ensures { λ r. ⌜ now r ≡ deed-word self ⌝ }
+        ensures { λ r. ⌜ now r ≡ hold-call-word self ⌝ }
     {
         match self {
-            Deed::Preview => b"preview",
-            Deed::Lift => b"lift",
-            Deed::Withdraw => b"withdraw",
+            HoldCall::Preview => b"preview",
+            HoldCall::Lift => b"lift",
+            HoldCall::Withdraw => b"withdraw",
         }
     }
 }
@@ -233,9 +233,9 @@ impl Verb {
         Verb::Step,
         Verb::Check,
         Verb::Hold,
-        Verb::Deed(Deed::Preview),
-        Verb::Deed(Deed::Lift),
-        Verb::Deed(Deed::Withdraw),
+        Verb::HoldCall(HoldCall::Preview),
+        Verb::HoldCall(HoldCall::Lift),
+        Verb::HoldCall(HoldCall::Withdraw),
     ];
 
     fn word(self) -> &'static [u8]
@@ -248,7 +248,7 @@ impl Verb {
             Verb::Step => b"step",
             Verb::Check => b"check",
             Verb::Hold => b"hold",
-            Verb::Deed(deed) => deed.word(),
+            Verb::HoldCall(call) => call.word(),
         }
     }
 
@@ -284,9 +284,9 @@ impl Verb {
                 let [e] = numbers::<1>(text)?;
                 Command::Hold(e)
             }
-            Verb::Deed(deed) => {
+            Verb::HoldCall(call) => {
                 let [h] = numbers::<1>(text)?;
-                Command::Deed(deed, h)
+                Command::HoldCall(call, h)
             }
         };
         Some(command)

@@ -5,8 +5,8 @@ ghost use Rattle.entries.specs.Refusals.{notice};
 ghost use Rattle.book.specs.Holds.{hold-again};
 ghost use Rattle.book.specs.View.{model};
 ghost use Rattle.script.specs.Hands.{foretold, undergo, GrantedBy, closed-reply, closed-books, modelled};
-ghost use Rattle.script.specs.declared.command.Deed.the-variants.{Preview, Lift, Withdraw};
-use crate::command::Deed;
+ghost use Rattle.script.specs.declared.command.HoldCall.the-variants.{Preview, Lift, Withdraw};
+use crate::command::HoldCall;
 use crate::reply::Reply;
 use book::Book;
 use book::Hold;
@@ -97,15 +97,15 @@ impl InHand {
         }
     }
 
-    pub(crate) fn undergo(&mut self, deed: Deed, book: &mut Book) -> Reply
-        ensures answer { λ r. ⌜ r ≡ undergo deed (model (now (book .entry))) (now (self .entry)) .reply ⌝ }
-        ensures hand { λ _. ⌜ now (self .exit) ≡ undergo deed (model (now (book .entry))) (now (self .entry)) .hand ⌝ }
-        ensures book { λ _. ⌜ model (now (book .exit)) ≡ undergo deed (model (now (book .entry))) (now (self .entry)) .book ⌝ }
+    pub(crate) fn undergo(&mut self, call: HoldCall, book: &mut Book) -> Reply
+        ensures answer { λ r. ⌜ r ≡ undergo call (model (now (book .entry))) (now (self .entry)) .reply ⌝ }
+        ensures hand { λ _. ⌜ now (self .exit) ≡ undergo call (model (now (book .entry))) (now (self .entry)) .hand ⌝ }
+        ensures book { λ _. ⌜ model (now (book .exit)) ≡ undergo call (model (now (book .entry))) (now (self .entry)) .book ⌝ }
     {
-        match deed {
-            Deed::Preview => self.preview(book),
-            Deed::Lift => self.lift(book),
-            Deed::Withdraw => self.withdraw(book),
+        match call {
+            HoldCall::Preview => self.preview(book),
+            HoldCall::Lift => self.lift(book),
+            HoldCall::Withdraw => self.withdraw(book),
         }
     }
 

@@ -4,13 +4,13 @@ ghost use lib.ListN.{length};
 ghost use Rattle.std.specs.Vec.{made, refused};
 ghost use Rattle.std.specs.shelf.Maps.{nth};
 ghost use Rattle.script.specs.Commands.{without-ending, request};
-ghost use Rattle.script.specs.Sessions.{model, start, Replies, done, used, Passed, Tried, Concludes, held-reply, deed-reply, appended, closed, closed-at, next-line, Did, Follows};
+ghost use Rattle.script.specs.Sessions.{model, start, Replies, done, used, Passed, Tried, Concludes, held-reply, hold-call-reply, appended, closed, closed-at, next-line, Did, Follows};
 use crate::book::answer;
 use crate::book::entered;
 use crate::book::judge;
 use crate::command::Call;
 use crate::command::Command;
-use crate::command::Deed;
+use crate::command::HoldCall;
 use crate::command::Line;
 use crate::command::read_line;
 use crate::command::without_ending;
@@ -141,16 +141,16 @@ impl Session {
         }
     }
 
-    // Does something with a hold in hand, on the current book.
-    fn deal(&mut self, deed: Deed, h: usize) -> Reply
-        ensures answer { λ r. ⌜ r ≡ deed-reply (model (now (self .entry))) deed h ⌝ }
-        ensures after { λ _. ⌜ model (now (self .exit)) ≡ done (model (now (self .entry))) (Command.Deed deed h) ⌝ }
+    // Makes a call on the current book with a hold in hand.
+    fn call_with_hold(&mut self, call: HoldCall, h: usize) -> Reply
+        ensures answer { λ r. ⌜ r ≡ hold-call-reply (model (now (self .entry))) call h ⌝ }
+        ensures after { λ _. ⌜ model (now (self .exit)) ≡ done (model (now (self .entry))) (Command.HoldCall call h) ⌝ }
     {
         let Some(book) = self.books.get_mut(self.current) else {
             return Reply::NoSuchBook;
         };
         match self.holds.get_mut(h) {
-            Some(held) => held.undergo(deed, book),
+            Some(held) => held.undergo(call, book),
             None => Reply::NoSuchHold,
         }
     }
@@ -195,7 +195,7 @@ impl Session {
             }
             Command::Check => Ok(Some(self.check())),
             Command::Hold(e) => Ok(Some(self.hold(e)?)),
-            Command::Deed(deed, h) => Ok(Some(self.deal(deed, usize::from(h)))),
+            Command::HoldCall(call, h) => Ok(Some(self.call_with_hold(call, usize::from(h)))),
         }
     }
 

@@ -8,9 +8,9 @@ use script::command::Command;
 use script::command::CommandDebug;
 use script::command::CommandDisplay;
 use script::command::CommandPartialEq;
-use script::command::Deed;
-use script::command::DeedDebug;
-use script::command::DeedPartialEq;
+use script::command::HoldCall;
+use script::command::HoldCallDebug;
+use script::command::HoldCallPartialEq;
 use script::command::Line;
 use script::command::LineDebug;
 use script::command::LinePartialEq;
@@ -62,10 +62,10 @@ const READ: [(&str, Command); 25] = [
     ("entry 511", Command::Call(Call::Entry(511))),
     ("predicate 65535", Command::Call(Call::Predicate(65535))),
     ("hold 1", Command::Hold(1)),
-    ("preview 0", Command::Deed(Deed::Preview, 0)),
-    ("lift 65535", Command::Deed(Deed::Lift, 65535)),
-    ("withdraw 2", Command::Deed(Deed::Withdraw, 2)),
-    ("  withdraw  002 ", Command::Deed(Deed::Withdraw, 2)),
+    ("preview 0", Command::HoldCall(HoldCall::Preview, 0)),
+    ("lift 65535", Command::HoldCall(HoldCall::Lift, 65535)),
+    ("withdraw 2", Command::HoldCall(HoldCall::Withdraw, 2)),
+    ("  withdraw  002 ", Command::HoldCall(HoldCall::Withdraw, 2)),
 ];
 
 #[test]
