@@ -1,4 +1,6 @@
 // A book: a vocabulary, given rules and conclusions, and holds that have to be ended.
+#![tactic(auto)]
+
 pub mod begin;
 pub mod calls;
 pub mod conclude;

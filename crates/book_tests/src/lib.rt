@@ -1,4 +1,6 @@
 // Runs of a book, by calls from another crate.
+#![tactic(auto)]
+
 pub mod caller;
 #[cfg(test)]
 mod tests;

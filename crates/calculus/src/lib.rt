@@ -1,4 +1,6 @@
 // Sequents, steps, theories, and the checker of derivations.
+#![tactic(auto)]
+
 mod checker;
 mod make;
 mod predicates;

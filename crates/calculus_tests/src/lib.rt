@@ -1,4 +1,6 @@
 // A theory written outside the crate of theories, and the checker over it.
+#![tactic(auto)]
+
 #[cfg(test)]
 mod tests;
 pub mod truth;

@@ -1,5 +1,7 @@
 // Runs a script from standard input, a call to a line, and prints a line for each call; then ends the holds still in hand.
 // It ends with status 1 if a line was not understood, if memory is wanting, or if input or output fails.
+#![tactic(auto)]
+
 use anyhow::anyhow;
 use script::Session;
 use std::io::{BufRead, BufReader};

@@ -1,4 +1,6 @@
 // The entries of a book in the order of their numbers, and what each call on them answers.
+#![tactic(auto)]
+
 pub mod calls;
 mod cited;
 mod scan;

@@ -1,4 +1,6 @@
 // The logic of the derivation book: each function's contract is a theorem about the definitions of specs/.
+#![tactic(auto)]
+
 ghost use Rattle.logic.specs.Deciding.{TypesDecided, FormedDecided, SureWellFormed};
 ghost use Rattle.logic.specs.Examples.{WorkedExample};
 ghost use Rattle.logic.specs.Growing.{GrowthKeeps, StaysWellFormed, EntersWell, OthersEnterWell};

@@ -1,4 +1,6 @@
 // The 25 rules decided by code, as three theories.
+#![tactic(auto)]
+
 mod instances;
 pub mod standard;
 mod table;

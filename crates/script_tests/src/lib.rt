@@ -1,4 +1,6 @@
 // What lines ask and are answered, on examples.
+#![tactic(auto)]
+
 #[cfg(test)]
 mod derivations;
 #[cfg(test)]

@@ -1,4 +1,6 @@
 // Entries of a book: what they are, their states, the rules under them, and why a call is refused.
+#![tactic(auto)]
+
 pub mod entry;
 pub mod refusal;
 pub mod state;

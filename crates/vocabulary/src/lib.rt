@@ -1,4 +1,6 @@
 // The vocabulary of a derivation book: types, variables, set names and formulas, which only grow in number.
+#![tactic(auto)]
+
 pub mod begin;
 pub mod calls;
 pub mod enter;
