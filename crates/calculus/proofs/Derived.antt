@@ -1,7 +1,7 @@
 -- In a derivation whose steps are right, every sequent is valid, for every sound theory.
 use Rattle.std.proofs.Common.{◌≡◌, ℕ, zero, suc, ◌+◌, ◌-◌, ◌<◌, ◌≤◌, List, [], ◌∷◌, length, refl, subst, not-suc-le-zero, arith}
 use Rattle.logic.specs.Formulas.{Vocabulary, WellFormed}
-use Rattle.std.specs.List.{AllByRecursion as All}
+use Rattle.std.specs.List.{AllByRecursion}
 use Rattle.logic.specs.Meanings.{Sequent as Seq, Valid}
 use Rattle.calculus.specs.Theories.{Meaning, Sound}
 use Rattle.calculus.specs.declared.step.Step.{Step}
@@ -9,7 +9,7 @@ use Rattle.calculus.specs.declared.refusal.Fault.TheVariants.{LatePremise, NoIns
 use Rattle.calculus.specs.Derivations.{at, sequent, premises, Earlier, RightBelow}
 
 module _ (m : Meaning) (sound : Sound m) (w : Vocabulary) (wf : WellFormed w) (xs : List Step) (hs : List ℕ) where
-  valid_premises : (k : ℕ) (x : Step) (i : ℕ) → Earlier k i x → ((j : ℕ) → j < i → Valid w (sequent hs (at xs j))) → All (Valid w) (premises k xs hs x)
+  valid_premises : (k : ℕ) (x : Step) (i : ℕ) → Earlier k i x → ((j : ℕ) → j < i → Valid w (sequent hs (at xs j))) → AllByRecursion (Valid w) (premises k xs hs x)
   valid_premises zero x i e f = tt
   valid_premises (suc zero) x i e f = (f x.first (e.0 (omega arith)), tt)
   valid_premises (suc (suc k)) x i e f = (f x.first (e.0 (omega arith)), (f x.second (e.1 (omega arith)), tt))

@@ -1,7 +1,7 @@
 -- Derivations: when a step is right, which fault is the first, and when a derivation is right.
 use Rattle.std.specs.Prelude.{◌≡◌, ℕ, zero, suc, ◌+◌, ◌-◌, ◌<◌, ◌≤◌, true, ◌⊎◌, List, [], ◌∷◌, length, take, drop, slice_index_or}
 use Rattle.logic.specs.Formulas.{Vocabulary, Predicate}
-use Rattle.std.specs.List.{AllByRecursion as All}
+use Rattle.std.specs.List.{AllByRecursion}
 use Rattle.logic.specs.Meanings.{Sequent as Seq}
 use Rattle.calculus.specs.declared.step.Step.{Step}
 use Rattle.calculus.specs.declared.refusal.Fault.{Fault}
@@ -35,7 +35,7 @@ InRange hs x = (x.start + x.count ≤ length hs) × (x.count ≤ 16)
 
 -- the hypotheses rise and are predicates, and so is the goal
 abbrev pub Shaped : Vocabulary → List ℕ → Step → Type 0
-Shaped v hs x = Rising (part hs x) × All (Predicate v) (part hs x) × Predicate v x.goal
+Shaped v hs x = Rising (part hs x) × AllByRecursion (Predicate v) (part hs x) × Predicate v x.goal
 
 -- the premises that a rule takes, n of them, are earlier than the place i
 abbrev pub Earlier : ℕ → ℕ → Step → Type 0

@@ -3,7 +3,7 @@ use Rattle.std.specs.Prelude.{◌≡◌, ℕ, ◌≤◌, Bool, true, false, cond
 use Rattle.std.proofs.Common.{sym, ◌∙◌}
 use Rattle.std.proofs.lemmas.Bool.{cond_both, or_parts, cond-false, true≢false}
 use Rattle.logic.specs.Formulas.{Vocabulary, WellFormed}
-use Rattle.std.specs.List.{AllByRecursion as All}
+use Rattle.std.specs.List.{AllByRecursion}
 use Rattle.logic.specs.Meanings.{Sequent as Seq, Valid}
 use Rattle.calculus.specs.declared.step.Step.{Step}
 use Rattle.calculus.specs.Theories.{Meaning, Sound, Regular, joined}
@@ -14,7 +14,7 @@ either false P Q R f g h = g h
 
 pub joined_sound : (m n : Meaning) → Sound m → Sound n → Sound (joined m n)
 joined_sound m n f g w wf x s ps =
-    either (m.known x.rule) (m.instance w x s ps) (n.instance w x s ps) (All (Valid w) ps → Valid w s) (f w wf x s ps) (g w wf x s ps)
+    either (m.known x.rule) (m.instance w x s ps) (n.instance w x s ps) (AllByRecursion (Valid w) ps → Valid w s) (f w wf x s ps) (g w wf x s ps)
 
 unknown : (b : Bool) (P Q : Type 0) → b ≡ false → (Q → ⊥) → MatchBool b P Q → ⊥
 unknown true P Q e g h = true≢false e

@@ -1,7 +1,7 @@
 -- What a theory is: the rules that it knows, how many premises each takes, and its instances.
 use Rattle.std.specs.Prelude.{◌≡◌, ℕ, ◌≤◌, Bool, true, false, cond, ◌||◌, List, [], ◌∷◌, MatchBool}
 use Rattle.logic.specs.Formulas.{Vocabulary, WellFormed}
-use Rattle.std.specs.List.{AllByRecursion as All}
+use Rattle.std.specs.List.{AllByRecursion}
 use Rattle.logic.specs.Meanings.{Sequent as Seq, Valid}
 use Rattle.calculus.specs.declared.step.Step.{Step}
 
@@ -12,7 +12,7 @@ pub record Meaning : Type 1 where
 
 -- where all the premises of an instance are valid, so is its sequent
 abbrev pub Sound : Meaning → Type 0
-Sound m = (w : Vocabulary) → WellFormed w → (x : Step) (s : Seq) (ps : List Seq) → m.instance w x s ps → All (Valid w) ps → Valid w s
+Sound m = (w : Vocabulary) → WellFormed w → (x : Step) (s : Seq) (ps : List Seq) → m.instance w x s ps → AllByRecursion (Valid w) ps → Valid w s
 
 -- no rule takes more than two premises; one that is not known takes none and has no instance
 pub record Regular (m : Meaning) : Type 0 where

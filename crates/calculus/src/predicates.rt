@@ -1,6 +1,6 @@
 // Whether numbers are those of predicates.
 ghost use Rattle.std.specs.Prelude.{Decides};
-ghost use Rattle.std.specs.List.{AllByRecursion as All};
+ghost use Rattle.std.specs.List.{AllByRecursion};
 ghost use Rattle.logic.specs.Formulas.{Predicate};
 ghost use Rattle.vocabulary.specs.View.{model};
 
@@ -13,7 +13,7 @@ pub(crate) fn is_predicate(v: &Vocabulary, n: u16) -> bool
 }
 
 pub(crate) fn all_predicates(v: &Vocabulary, list: &[u16]) -> bool
-    ensures { Decides result (All (Predicate (model v.now)) list.now) }
+    ensures { Decides result (AllByRecursion (Predicate (model v.now)) list.now) }
 {
     for p in list {
         if !is_predicate(v, *p) {

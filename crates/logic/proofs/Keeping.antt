@@ -1,6 +1,6 @@
 -- Growing a vocabulary changes nothing of what older numbers mean.
 use Rattle.std.proofs.Common.{◌≡◌, ℕ, ◌<◌, not, T, ltb, ◌↔◌, List, [], ◌∷◌, length, sym, refl, ◌∙◌, subst, inl, inr, ⊎_elim, arith, lt→ltb}
-use Rattle.std.specs.List.{AllByRecursion as All}
+use Rattle.std.specs.List.{AllByRecursion}
 use Rattle.logic.specs.Formulas.{In, Shape, variable, pair, falsity, truth, negation, join, bind, equal, member, operands, through, Vocabulary, node, variable_type, element_type, free, free_layer, HasType, IsReplaced, Substituted, IsSubstitution, predicate_shape, WellFormed, weight, weight_layer, depth, depth_layer}
 use Rattle.logic.specs.Deciding.{type_of, is_expression}
 use Rattle.logic.specs.Growing.{Grows, Known, Keeps, GrowthKeeps}
@@ -89,7 +89,7 @@ module _ (v v' : Vocabulary) (wf : WellFormed v) (wf' : WellFormed v') (grows : 
         rw (substituted_is v' wf'.formulas_fall x e p, substituted_is v wf.formulas_fall x e p, node_stays v v' grows p h, free_stays x p h)
         (⊎_elim inl (λ (t, i). inr (t, r.0 i)), ⊎_elim inl (λ (t, i). inr (t, r.1 i)))
 
-  substitution_stays : (q x e p : ℕ) → All Old (q ∷ e ∷ p ∷ []) → x < length v.variables → IsSubstitution v' q x e p ↔ IsSubstitution v q x e p
+  substitution_stays : (q x e p : ℕ) → AllByRecursion Old (q ∷ e ∷ p ∷ []) → x < length v.variables → IsSubstitution v' q x e p ↔ IsSubstitution v q x e p
   substitution_stays q x e p (hq, (he, (hp, _))) hx = (
     λ (_, _, t, s). (hp, hx, (typing_stays e _ he).0 (rw (variable_type_stays v v' grows x hx) at t), (substituted_stays x e he p hp q hq).0 s),
     λ (_, _, t, s). (
@@ -112,7 +112,7 @@ module _ (v v' : Vocabulary) (wf : WellFormed v) (wf' : WellFormed v') (grows : 
           (i.sets_typed s (longer _ _ grows.sets_grow.0 s grows.sets_grow.1 h) u t);
     }
 
-    refuted_stays : (ns : List ℕ) → All Old ns → refuted (true_in v' w f) ns ≡ refuted (true_in v w f) ns
+    refuted_stays : (ns : List ℕ) → AllByRecursion Old ns → refuted (true_in v' w f) ns ≡ refuted (true_in v w f) ns
     refuted_stays [] known = refl
     refuted_stays (n ∷ ns) known = rw (meaning_stays v v' grows wf wf' w n known.0, refuted_stays ns known.1)
 

@@ -4,7 +4,7 @@ use Rattle.std.proofs.Common.{◌≡◌, ℕ, zero, suc, Bool, true, false, not,
 use mathlib.Core.Bool.{decide, Bool-discrete}
 use native.Mathlib.Decide.{ℕ_discrete}
 use lib.Dec.{not_T}
-use Rattle.std.specs.List.{AllZip, AllByRecursion as All}
+use Rattle.std.specs.List.{AllZip, AllByRecursion}
 use Rattle.logic.specs.Formulas.{In, Shape, pair, equal, through, Sort, carrier, product, parts, across, Vocabulary, node, sort, variable_type, IsSubstitution, WellFormed}
 use Rattle.logic.specs.Meanings.{Value, thing, ordered_pair, things, values_layer, Value-discrete, Structure, values, assign, holds, meaning, meaning_layer, every, some, Interpretation, Sequent, true_in, refuted, Valid}
 use Rattle.logic.specs.Rules.{Absent, Form, hyp, mon, cut, false_l, false_r, not_l, not_r, and_l, and_r, or_l, or_r, imp_l, imp_r, true_r, eqv_l, eqv_r, all_l, all_r, xst_l, xst_r, eql, eq_lr, eq_rl, pair_l, pair_r, Made, Sound, Consistent}
@@ -56,7 +56,7 @@ module _ (p : Value → Bool) where
 
 module _ (p : ℕ → Bool) where
   abbrev pub True : List ℕ → Type 0
-  True = All (λ n. T (p n))
+  True = AllByRecursion (λ n. T (p n))
 
   pub true_at : (ns : List ℕ) (n : ℕ) → True ns → In n ns → T (p n)
   true_at [] n t i = absurd i
@@ -113,7 +113,7 @@ module _ (v : Vocabulary) (wf : WellFormed v) (w : Structure) where
   with_value q x e p f i = ap holds (kept v wf.formulas_fall w x e p q f i.3)
 
   form_sound : (H : List ℕ) (a b c : ℕ) {r : Rule} {fresh : List ℕ} {above : List Sequent} {below : Sequent} →
-      Form v a b c r fresh above below → All (λ x. Absent v x H) fresh → All (Follows H) above → Follows H below
+      Form v a b c r fresh above below → AllByRecursion (λ x. Absent v x H) fresh → AllByRecursion (Follows H) above → Follows H below
   form_sound H a b c hyp z k f φ h t = t.0
   form_sound H a b c mon z k f φ h t = k.0 f φ h tt
   form_sound H a b c cut z k f φ h t = k.1.0 f φ h (k.0 f φ h tt, tt)
@@ -154,7 +154,7 @@ module _ (v : Vocabulary) (wf : WellFormed v) (w : Structure) where
   follows H part s (e, m) valid f φ h t = rw e at (holds_at (true_in v w f) _ s.hypotheses (valid w f φ) (true_from _ s.hypotheses λ n i.
       ⊎_elim (true_at _ H n h) (true_at _ part.hypotheses n t) ((m n).0 i)))
 
-  all_follow : (H : List ℕ) (above premises : List Sequent) → AllZip (Made H) above premises → All (Valid v) premises → All (Follows H) above
+  all_follow : (H : List ℕ) (above premises : List Sequent) → AllZip (Made H) above premises → AllByRecursion (Valid v) premises → AllByRecursion (Follows H) above
   all_follow H [] [] m valid = tt
   all_follow H [] (s ∷ ss) m valid = absurd m
   all_follow H (p ∷ ps) [] m valid = absurd m

@@ -5,7 +5,7 @@ use Rattle.std.proofs.Common.{◌≡◌, ℕ, ◌<◌, Bool, true, false, T, ◌
 use mathlib.Core.Path.{subst₃}
 use Rattle.std.proofs.lemmas.Bool.{cases_lt}
 use lib.ListN.{get_or-eq_default}
-use Rattle.std.specs.List.{AllByRecursion as All}
+use Rattle.std.specs.List.{AllByRecursion}
 use Rattle.logic.proofs.Comparing.{fits_by, instance_by_sets}
 use Rattle.logic.proofs.Tests.{and_right}
 use Rattle.logic.specs.Formulas.{In, Shape, implies, variable, pair, falsity, truth, negation, join, bind, equal, member, Vocabulary, node, WellFormed}
@@ -90,10 +90,10 @@ judged_by_line v wf a b c r fresh above below premises s not-mon not-false form 
 )
   where
     Judged : List ℕ → List Sequent → Sequent → Type 0
-    Judged f ps z = All (λ x. Absent v x (least (z ∷ ps) (s ∷ premises))) f × T (fits (least (z ∷ ps) (s ∷ premises)) (z ∷ ps) (s ∷ premises))
+    Judged f ps z = AllByRecursion (λ x. Absent v x (least (z ∷ ps) (s ∷ premises))) f × T (fits (least (z ∷ ps) (s ∷ premises)) (z ∷ ps) (s ∷ premises))
 
     to : ((f : List ℕ) × (ps : List Sequent) × (z : Sequent) × Form v a b c r f ps z ×
-        All (λ x. Absent v x (least (z ∷ ps) (s ∷ premises))) f × T (fits (least (z ∷ ps) (s ∷ premises)) (z ∷ ps) (s ∷ premises))) → Judged fresh above below
+        AllByRecursion (λ x. Absent v x (least (z ∷ ps) (s ∷ premises))) f × T (fits (least (z ∷ ps) (s ∷ premises)) (z ∷ ps) (s ∷ premises))) → Judged fresh above below
     to (f, ps, z, form', absent, fit) =
         let u = unique v wf a b c form form' (goals ∙ sym (goals_agree _ (z ∷ ps) (s ∷ premises) fit)) in
         let e : below ≡ z = ⊎_elim (λ k. absurd (not-mon k)) (⊎_elim (λ k. absurd (not-false k)) (λ k. k)) u.2 in

@@ -1,6 +1,6 @@
 -- How a vocabulary grows: what is entered changes nothing that was there, and keeps it well formed.
 use Rattle.std.specs.Prelude.{◌≡◌, ℕ, ◌<◌, ◌≤◌, ◌↔◌, List, [], ◌∷◌, ◌++◌, length, ◌≢◌}
-use Rattle.std.specs.List.{AllByRecursion as All}
+use Rattle.std.specs.List.{AllByRecursion}
 use Rattle.logic.specs.Formulas.{In, Shape, operands, Sort, product, parts, Vocabulary, node, sort, variable_type, element_type, free, HasType, IsSubstitution, Formed, WellFormed, weight, depth}
 use Rattle.logic.specs.Meanings.{Value, Structure, values, meaning, Interpretation, Sequent, Valid}
 
@@ -13,7 +13,7 @@ pub record Grows (v v' : Vocabulary) : Type 0 where
 
 -- every number of the sequent is a formula's
 abbrev pub Known : Vocabulary → Sequent → Type 0
-Known v s = All (λ n. n < length v.formulas) (s.goal ∷ s.hypotheses)
+Known v s = AllByRecursion (λ n. n < length v.formulas) (s.goal ∷ s.hypotheses)
 
 -- what v says of its own numbers, v' says of them too
 pub record Keeps (v v' : Vocabulary) : Type 0 where
@@ -25,7 +25,7 @@ pub record Keeps (v v' : Vocabulary) : Type 0 where
   pub weight_stays : (n : ℕ) → n < length v.formulas → weight v' n ≡ weight v n
   pub depth_stays : (n : ℕ) → n < length v.formulas → depth v' n ≡ depth v n
   pub free_stays : (x n : ℕ) → n < length v.formulas → free v' x n ≡ free v x n
-  pub substitution_stays : (q x e p : ℕ) → All (λ n. n < length v.formulas) (q ∷ e ∷ p ∷ []) → x < length v.variables →
+  pub substitution_stays : (q x e p : ℕ) → AllByRecursion (λ n. n < length v.formulas) (q ∷ e ∷ p ∷ []) → x < length v.variables →
       IsSubstitution v' q x e p ↔ IsSubstitution v q x e p
   pub values_stay : (w : Structure) (t : ℕ) → t < length v.types → values v' w t ≡ values v w t
   pub meaning_stays : (w : Structure) (n : ℕ) → n < length v.formulas → meaning v' w n ≡ meaning v w n

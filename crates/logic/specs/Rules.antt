@@ -2,7 +2,7 @@
 use Rattle.logic.specs.declared.rule.Rule.{Rule}
 use Rattle.logic.specs.declared.rule.Rule.TheVariants.{Hyp, Mon, Cut, FalseL, FalseR, NotL, NotR, AndL, AndR, OrL, OrR, ImpL, ImpR, TrueR, EqvL, EqvR, AllL, AllR, XstL, XstR, Eql, EqLR, EqRL, PairL, PairR}
 use Rattle.std.specs.Prelude.{◌≡◌, ℕ, ◌<◌, Bool, true, false, cond, not, ◌&&◌, ◌||◌, T, ◌⊎◌, ◌↔◌, List, [], ◌∷◌, ◌++◌, map, length, ◌==◌, ◌≢◌}
-use Rattle.std.specs.List.{AllZip, AllByRecursion as All}
+use Rattle.std.specs.List.{AllZip, AllByRecursion}
 use Rattle.logic.specs.Formulas.{In, and, or, implies, iff, forall, exists, pair, falsity, truth, negation, join, bind, equal, Vocabulary, node, free, IsSubstitution, Predicate, WellFormed}
 use Rattle.logic.specs.Meanings.{Sequent, Valid}
 
@@ -12,7 +12,7 @@ hypotheses ⊢ goal = record { hypotheses = hypotheses; goal = goal }
 
 -- x is free in none of the formulas
 abbrev pub Absent : Vocabulary → ℕ → List ℕ → Type 0
-Absent v x = All (λ n. T (not (free v x n)))
+Absent v x = AllByRecursion (λ n. T (not (free v x n)))
 
 -- n is the number of ⊥
 abbrev pub Falsity : Vocabulary → ℕ → Type 0
@@ -59,12 +59,12 @@ Made H part s = (s.goal ≡ part.goal) × ((n : ℕ) → In n s.hypotheses ↔ (
 abbrev pub Instance : Vocabulary → Rule → ℕ → ℕ → ℕ → List Sequent → Sequent → Type 0
 Instance v rule a b c premises s =
     (H : List ℕ) × (fresh : List ℕ) × (above : List Sequent) × (below : Sequent) ×
-    Form v a b c rule fresh above below × All (λ x. Absent v x H) fresh × AllZip (Made H) (below ∷ above) (s ∷ premises)
+    Form v a b c rule fresh above below × AllByRecursion (λ x. Absent v x H) fresh × AllZip (Made H) (below ∷ above) (s ∷ premises)
 
 -- if all premises of an instance are valid, so is its sequent
 abbrev pub Sound : Type 0
 Sound = (v : Vocabulary) → WellFormed v → (rule : Rule) (a b c : ℕ) (premises : List Sequent) (s : Sequent) →
-    Instance v rule a b c premises s → All (Valid v) premises → Valid v s
+    Instance v rule a b c premises s → AllByRecursion (Valid v) premises → Valid v s
 
 -- every number of ns is one of ms
 abbrev pub Subset : List ℕ → List ℕ → Type 0
@@ -102,7 +102,7 @@ fits L (p ∷ ps) (s ∷ ss) = (s.goal == p.goal && (subset p.hypotheses s.hypot
 abbrev pub InstanceBySets : Type 0
 InstanceBySets = (v : Vocabulary) (rule : Rule) (a b c : ℕ) (premises : List Sequent) (s : Sequent) →
     Instance v rule a b c premises s ↔ ((fresh : List ℕ) × (above : List Sequent) × (below : Sequent) × Form v a b c rule fresh above below ×
-    All (λ x. Absent v x (least (below ∷ above) (s ∷ premises))) fresh ×
+    AllByRecursion (λ x. Absent v x (least (below ∷ above) (s ∷ premises))) fresh ×
     T (fits (least (below ∷ above) (s ∷ premises)) (below ∷ above) (s ∷ premises)))
 
 -- MON as the table has it: G ⊢ Q, G a subset of H, gives H ⊢ Q
@@ -126,7 +126,7 @@ LinesUnique = (v : Vocabulary) → WellFormed v → (a b c : ℕ) (r : Rule) (fr
 abbrev pub JudgedByLine : Type 0
 JudgedByLine = (v : Vocabulary) → WellFormed v → (a b c : ℕ) (r : Rule) (fresh : List ℕ) (above : List Sequent) (below : Sequent) (premises : List Sequent) (s : Sequent) →
     (r ≢ Mon) → (r ≢ FalseL) → Form v a b c r fresh above below → goals (below ∷ above) ≡ goals (s ∷ premises) →
-    Instance v r a b c premises s ↔ (All (λ x. Absent v x (least (below ∷ above) (s ∷ premises))) fresh ×
+    Instance v r a b c premises s ↔ (AllByRecursion (λ x. Absent v x (least (below ∷ above) (s ∷ premises))) fresh ×
     T (fits (least (below ∷ above) (s ∷ premises)) (below ∷ above) (s ∷ premises)))
 
 -- FALSE_L is an instance where some hypothesis is ⊥

@@ -1,6 +1,6 @@
 -- The worked derivations, computed.
 use Rattle.std.proofs.Common.{◌≡◌, ℕ, zero, suc, ◌+◌, ◌<◌, Bool, true, not, ◌&&◌, T, ltb, List, [], ◌∷◌, sym, refl, ap, ◌∙◌, subst, inl, inr, ⊎_elim, arith, lit<, lit≤, ltb→lt}
-use Rattle.std.specs.List.{AllZip, AllByRecursion as All}
+use Rattle.std.specs.List.{AllZip, AllByRecursion}
 use Rattle.logic.specs.Formulas.{forall, bind, node, free, ask, descend}
 use Rattle.logic.specs.Examples.{example}
 use Rattle.logic.specs.Meanings.{Sequent as Seq}
@@ -58,7 +58,7 @@ unfolding free ask descend node
 not_absent t = t
 
 no_form : (H : List ℕ) {fresh : List ℕ} {above : List Seq} {below : Seq} → Form example 0 0 0 AllR fresh above below →
-    All (λ x. Absent example x H) fresh → AllZip (Made H) (below ∷ above) ((1 ∷ [] ⊢ 9) ∷ (1 ∷ [] ⊢ 1) ∷ []) → ⊥
+    AllByRecursion (λ x. Absent example x H) fresh → AllZip (Made H) (below ∷ above) ((1 ∷ [] ⊢ 9) ∷ (1 ∷ [] ⊢ 1) ∷ []) → ⊥
 unfolding node
 no_form H (all_r {n} {p} {x} e) (absent, _) ((i, m), _) =
     let q : node example 9 ≡ bind forall x p = subst (λ k. node example k ≡ bind forall x p) (sym i) e in

@@ -5,7 +5,7 @@ use Rattle.std.proofs.lemmas.Bool.{and_parts, and_from, or_cases, or_left, or_ri
 use Rattle.std.proofs.lemmas.Bool.Decides.{Decides-and, Decides-like}
 use Rattle.logic.specs.Formulas.{In, Vocabulary, free}
 use Rattle.logic.proofs.Soundness.{true_at, true_from}
-use Rattle.std.specs.List.{AllByRecursion as All}
+use Rattle.std.specs.List.{AllByRecursion}
 use Rattle.logic.specs.Meanings.{Sequent as Seq}
 use Rattle.logic.specs.Rules.{Absent, Subset, mem, minus, least, fits}
 use Rattle.logic.proofs.Tests.{is_true, is_so}
@@ -211,6 +211,6 @@ absent_from_all_is v x l s (p ∷ q ∷ []) h = Decides-like (absent_from_all v 
 absent_from_all_is v x l s (p ∷ q ∷ r ∷ ps) h = absurd (omega arith)
 
 pub fresh_absent_is : (v : Vocabulary) (f : Option ℕ) (l : Line) (s : Seq) (ps : List Seq) → length ps ≤ 2 →
-    Decides (fresh_absent v f l s ps) (All (λ x. Absent v x (least (below l s ∷ above l ps) (s ∷ ps))) (fresh_variables f))
+    Decides (fresh_absent v f l s ps) (AllByRecursion (λ x. Absent v x (least (below l s ∷ above l ps) (s ∷ ps))) (fresh_variables f))
 fresh_absent_is v None l s ps h = (λ _. tt, λ _. refl)
 fresh_absent_is v (Some x) l s ps h = Decides-like (absent_from_all v x l s ps) (λ a. (a, tt)) (λ a. a.0) (absent_from_all_is v x l s ps h)

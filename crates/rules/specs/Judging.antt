@@ -1,7 +1,7 @@
 -- The line and the sets decide whether a step is an instance of its rule.
 use Rattle.std.specs.Prelude.{◌≡◌, ℕ, ◌-◌, ◌≤◌, Bool, true, ◌&&◌, T, ◌↔◌, List, [], ◌∷◌, length, take, Decides, refl}
 use Rattle.std.proofs.Common.{◌∙◌, subst, arith}
-use Rattle.std.specs.List.{AllByRecursion as All}
+use Rattle.std.specs.List.{AllByRecursion}
 use Rattle.std.proofs.lemmas.Bool.{and_parts, and_from}
 use Rattle.logic.specs.Formulas.{Vocabulary, WellFormed}
 use Rattle.logic.specs.Meanings.{Sequent as Seq}
@@ -58,7 +58,7 @@ by_line_decides v wf r x s ps w z t e a = (
     form g = subst (λ (A : List Seq). Form v x.a x.b x.c r (fresh_variables l.fresh) A (below l s)) (take_above l ps (arity r) e two)
         (matched_form v x r s.goal (goal_at ps 0) (goal_at ps 1) w z a g)
 
-    decided : l.matches ≡ true → Instance v r x.a x.b x.c ps s ↔ (All (λ y. Absent v y (least (below l s ∷ above l ps) (s ∷ ps))) (fresh_variables l.fresh) ×
+    decided : l.matches ≡ true → Instance v r x.a x.b x.c ps s ↔ (AllByRecursion (λ y. Absent v y (least (below l s ∷ above l ps) (s ∷ ps))) (fresh_variables l.fresh) ×
         T (fits (least (below l s ∷ above l ps) (s ∷ ps)) (below l s ∷ above l ps) (s ∷ ps)))
     decided g = judged_by_line v wf x.a x.b x.c r (fresh_variables l.fresh) (above l ps) (below l s) ps s
         (λ m. subst (λ (k : Rule). T (by_line k)) m t) (λ m. subst (λ (k : Rule). T (by_line k)) m t) (form g) (goals_above l s ps two)

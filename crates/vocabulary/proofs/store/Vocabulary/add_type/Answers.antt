@@ -30,9 +30,9 @@ returns c =
     let vs = vec_items v.variables in
     let ss = vec_items v.set_names in
     let rs = vec_items v.records in
-    let room : length (model v).types < 64 = omega (arith, c.type-count-n.ensures.model) in
+    let room : length (model v).types < 64 = omega (arith, c.type_count-n.ensures.model) in
     let h = type_added (model v) (sort_of c.args.d) room in
     record {
-      answer = ap Ok c.type-count-n.ensures.model ∙ sym (ap (λ (o : Outcome). o.answer) h);
-      after = ap (λ (x : List TypeDef). view x vs ss rs) c.push-reserved.ensures.items ∙ (view_with_type (vec_items v.types) vs ss rs c.args.d ∙ sym (ap (λ (o : Outcome). o.after) h));
+      answer = ap Ok c.type_count-n.ensures.model ∙ sym (ap (λ (o : Outcome). o.answer) h);
+      after = ap (λ (x : List TypeDef). view x vs ss rs) c.push_reserved.ensures.items ∙ (view_with_type (vec_items v.types) vs ss rs c.args.d ∙ sym (ap (λ (o : Outcome). o.after) h));
     }

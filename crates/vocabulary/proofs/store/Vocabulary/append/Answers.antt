@@ -36,6 +36,6 @@ returns c =
     let vs = vec_items v.variables in
     let ss = vec_items v.set_names in
     record {
-      answer = c.formula-count-n.ensures.model;
-      after = ap (view ts vs ss) c.push-reserved.ensures.items ∙ view_with_formula ts vs ss (vec_items v.records) c.args.r;
+      answer = c.formula_count-n.ensures.model;
+      after = ap (view ts vs ss) c.push_reserved.ensures.items ∙ view_with_formula ts vs ss (vec_items v.records) c.args.r;
     }

@@ -11,10 +11,10 @@ pub returns : goal.returns
 returns c =
     let v = model c.args.self.now in
     let r = c.args.r in
-    let p = c.facts-of-operand-p.ensures in
-    let q = c.facts-of-operand-q.ensures in
+    let p = c.facts_of_operand-p.ensures in
+    let q = c.facts_of_operand-q.ensures in
     record {
-      ty = c.type-from-ty.ensures
+      ty = c.type_from-ty.ensures
           ∙ (ap₂ (type_from v r)
           (p.ty ∙ ap (λ (x : Role). part 0 (type_of v) x r.a) c.first_role.ensures)
           (q.ty ∙ ap (λ (x : Role). part 0 (type_of v) x r.b) c.second_role.ensures)

@@ -7,5 +7,5 @@ use Rattle.vocabulary.specs.View.{model}
 use Rattle.vocabulary.proofs.store.Vocabulary.is_expression.Goals as goal
 
 pub returns : goal.returns
-returns c = ap₂ ◌&&◌ c.knows-formula-known.ensures
-    (c.is-expression-expression.ensures ∙ (ap (λ (r : Record). is_expression_kind r.kind) c.record.ensures ∙ expression_kind (node (model c.args.self.now) c.args.n)))
+returns c = ap₂ ◌&&◌ c.knows_formula-known.ensures
+    (c.is_expression-expression.ensures ∙ (ap (λ (r : Record). is_expression_kind r.kind) c.record.ensures ∙ expression_kind (node (model c.args.self.now) c.args.n)))

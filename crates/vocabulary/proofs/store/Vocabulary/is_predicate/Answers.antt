@@ -7,5 +7,5 @@ use Rattle.vocabulary.specs.View.{model}
 use Rattle.vocabulary.proofs.store.Vocabulary.is_predicate.Goals as goal
 
 pub returns : goal.returns
-returns c = ap₂ ◌&&◌ c.knows-formula-known.ensures
-    (ap not c.is-expression-expression.ensures ∙ (ap (λ (r : Record). not (is_expression_kind r.kind)) c.record.ensures ∙ predicate_kind (node (model c.args.self.now) c.args.n)))
+returns c = ap₂ ◌&&◌ c.knows_formula-known.ensures
+    (ap not c.is_expression-expression.ensures ∙ (ap (λ (r : Record). not (is_expression_kind r.kind)) c.record.ensures ∙ predicate_kind (node (model c.args.self.now) c.args.n)))

@@ -12,6 +12,6 @@ returns c =
     let r = c.args.r in
     c.agree_from.ensures
     ∙ (ap₂ (agree_from v r)
-    (c.facts-of-operand-p.ensures.ty ∙ ap (λ (x : Role). part 0 (type_of v) x r.a) c.first_role.ensures)
-    (c.facts-of-operand-q.ensures.ty ∙ ap (λ (x : Role). part 0 (type_of v) x r.b) c.second_role.ensures)
+    (c.facts_of_operand-p.ensures.ty ∙ ap (λ (x : Role). part 0 (type_of v) x r.a) c.first_role.ensures)
+    (c.facts_of_operand-q.ensures.ty ∙ ap (λ (x : Role). part 0 (type_of v) x r.b) c.second_role.ensures)
     ∙ agree_parts v r.kind r.a r.b)
