@@ -1,4 +1,4 @@
 use Rattle.questions.proofs.substitution.+is_free.Given as goal
 
-abbrev pub decreases-is-free : goal.decreases-is-free
-decreases-is-free l = l.n
+abbrev pub decreases-is_free : goal.decreases-is_free
+decreases-is_free l = l.n

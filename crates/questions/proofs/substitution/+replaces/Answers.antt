@@ -7,10 +7,10 @@ use Rattle.vocabulary.proofs.Views.{well_formed}
 use Rattle.formulas.proofs.Shapes.{first_below, second_below}
 use Rattle.questions.proofs.Answering.{substituted_apart, substituted_found, replaced_formula, replaced_other, absent, present}
 use Rattle.questions.proofs.substitution.+replaces.Goals as goal
-use Rattle.questions.proofs.substitution.+replaces.Goals.{then-is-formula, else-is-formula, then-is-formula-2, else-is-formula-2}
+use Rattle.questions.proofs.substitution.+replaces.Goals.{then-is_formula, else-is_formula, then-is_formula-2, else-is_formula-2}
 
-pub returns-then-not-is-free : goal.returns-then-not-is-free
-returns-then-not-is-free t c =
+pub returns-then-not-is_free : goal.returns-then-not-is_free
+returns-then-not-is_free t c =
     let v = c.args.v.now in
     substituted_apart (model v) c.args.x c.args.e (well_formed v).formulas_fall c.args.p c.args.q (absent (free (model v) c.args.x c.args.p) (cc))
 
@@ -34,15 +34,15 @@ returns t c =
     let f = Substituted (model v) c.args.x c.args.e in
     let r = c.record-r.result in
     let s = c.record-s.result in
-    let p : T c.if-is-formula.first ↔ Replaced f (first_role r.kind) r.a s.a =
-    elim c.if-is-formula.branch [
-      | then-is-formula w ↦ replaced_formula f (first_role r.kind) r.a s.a c.if-is-formula.first w.replaces-first.result (cc) w.first-is w.replaces-first.ensures
-      | else-is-formula w ↦ replaced_other f (first_role r.kind) r.a s.a c.if-is-formula.first (cc) w.first-is
+    let p : T c.if-is_formula.first ↔ Replaced f (first_role r.kind) r.a s.a =
+    elim c.if-is_formula.branch [
+      | then-is_formula w ↦ replaced_formula f (first_role r.kind) r.a s.a c.if-is_formula.first w.replaces-first.result (cc) w.first-is w.replaces-first.ensures
+      | else-is_formula w ↦ replaced_other f (first_role r.kind) r.a s.a c.if-is_formula.first (cc) w.first-is
     ] in
-    let q : T c.if-is-formula-2.second ↔ Replaced f (second_role r.kind) r.b s.b =
-    elim c.if-is-formula-2.branch [
-      | then-is-formula-2 w ↦ replaced_formula f (second_role r.kind) r.b s.b c.if-is-formula-2.second w.replaces-second.result (cc) w.second-is w.replaces-second.ensures
-      | else-is-formula-2 w ↦ replaced_other f (second_role r.kind) r.b s.b c.if-is-formula-2.second (cc) w.second-is
+    let q : T c.if-is_formula-2.second ↔ Replaced f (second_role r.kind) r.b s.b =
+    elim c.if-is_formula-2.branch [
+      | then-is_formula-2 w ↦ replaced_formula f (second_role r.kind) r.b s.b c.if-is_formula-2.second w.replaces-second.result (cc) w.second-is w.replaces-second.ensures
+      | else-is_formula-2 w ↦ replaced_other f (second_role r.kind) r.b s.b c.if-is_formula-2.second (cc) w.second-is
     ] in
-    substituted_found (model v) c.args.x c.args.e (well_formed v).formulas_fall c.args.p c.args.q (present (free (model v) c.args.x c.args.p) (sym c.if-not-is-free.ensures.answer))
-    r s c.record-r.ensures c.record-s.ensures c.if-is-formula.first c.if-is-formula-2.second c.substituted_under.result p q c.substituted_under.ensures
+    substituted_found (model v) c.args.x c.args.e (well_formed v).formulas_fall c.args.p c.args.q (present (free (model v) c.args.x c.args.p) (sym c.if-not-is_free.ensures.answer))
+    r s c.record-r.ensures c.record-s.ensures c.if-is_formula.first c.if-is_formula-2.second c.substituted_under.result p q c.substituted_under.ensures

@@ -1,4 +1,4 @@
-use Rattle.std.proofs.Common.{vec_items, arith}
+use Rattle.std.proofs.Common.{vec_items, arith, refl}
 use lib.ListN.{length-map}
 use Rattle.formulas.specs.Records.{sort_of, shape_of}
 use Rattle.vocabulary.proofs.Views.{stored}
@@ -8,6 +8,7 @@ pub returns : goal.returns
 returns c =
     let v = c.args.self.now in
     record {
+      answer = refl;
       formed = (stored v).well_formed;
       limited = record {
         few_types = omega (arith, length-map (vec_items v.types) sort_of);
@@ -15,6 +16,6 @@ returns c =
         few_sets = omega arith;
         few_formulas = omega (arith, length-map (vec_items v.records) shape_of);
         light = λ n. ((stored v).weighed n).1;
-        shallow = λ n. ((stored v).decreases n).1;
+        shallow = λ n. ((stored v).measured n).1;
       };
     }

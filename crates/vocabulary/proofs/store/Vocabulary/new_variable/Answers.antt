@@ -9,8 +9,8 @@ use Rattle.vocabulary.proofs.Views.{stored}
 use Rattle.vocabulary.proofs.Kept.{sure, stored_with_variable}
 use Rattle.vocabulary.proofs.store.Vocabulary.new_variable.Goals as goal
 
-pub invariant-of-self : goal.invariant-of-self
-invariant-of-self c =
+pub invariant_of-self : goal.invariant_of-self
+invariant_of-self c =
     let v = c.args.self.now in
     let ts = vec_items v.types in
     let vs = vec_items v.variables in
@@ -19,4 +19,4 @@ invariant-of-self c =
     let fs = vec_items v.facts in
     let known = ltb-true c.args.t (length (model v).types) (cc) in
     let after = stored_with_variable (model v) rs fs (stored v) c.args.t (enters_variable (model v) c.args.t (stored v).well_formed known) in
-    (omega arith, (omega arith, (subst (λ (x : List ℕ). Sure (Stored (view ts x ss rs) rs fs)) (sym c.push-reserved.ensures.items) (sure after), tt)))
+    record { few = omega arith; room = omega arith; stored = subst (λ (x : List ℕ). Sure (Stored (view ts x ss rs) rs fs)) (sym c.push_reserved.ensures.items) (sure after) }

@@ -7,8 +7,8 @@ use Rattle.vocabulary.proofs.Found.{found_at, found_none}
 use Rattle.vocabulary.proofs.Views.{found_map}
 use Rattle.vocabulary.proofs.store.Vocabulary.product_number.Goals as goal
 
-pub returns-then-is-product : goal.returns-then-is-product
-returns-then-is-product c =
+pub returns-then-is_product : goal.returns-then-is_product
+returns-then-is_product c =
     let ts = vec_items c.args.self.now.types in
     found_at (λ (d : TypeDef). is_product c.args.s c.args.t (sort_of d)) ts Carrier c.loop-i.i (search rules) c.loop-i.invariant (cc)
     ∙ sym (found_map sort_of (is_product c.args.s c.args.t) ts)
