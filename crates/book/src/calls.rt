@@ -34,8 +34,8 @@ impl Book {
         steps: &[Step],
         hypotheses: &[u16],
     ) -> Result<Sequent, DerivationRefusal>
-        ensures accepted { Decides (is_ok result) (RightDerivation (meaning theory.now) (model self.now).vocabulary steps.now hypotheses.now) }
-        ensures refused { (e : DerivationRefusal) → (result ≡ Err e) ↔ FirstFault e (meaning theory.now) (model self.now).vocabulary steps.now hypotheses.now }
+        ensures accepted { Decides (is_ok result) (RightDerivation (T.meaning theory.now) (model self.now).vocabulary steps.now hypotheses.now) }
+        ensures refused { (e : DerivationRefusal) → (result ≡ Err e) ↔ FirstFault e (T.meaning theory.now) (model self.now).vocabulary steps.now hypotheses.now }
         ensures root { IfOk result (λ s. seq s ≡ root steps.now hypotheses.now) }
         ensures valid { IfOk result (λ s. Valid (model self.now).vocabulary (seq s)) }
     {

@@ -23,7 +23,7 @@ impl Book {
         hypotheses: &[u16],
         citations: &[u16],
     ) -> Result<Sequent, DerivationRefusal>
-        ensures { Judges (meaning theory.now) (model self.now).vocabulary steps.now hypotheses.now citations.now (verdict_of result) }
+        ensures { Judges (T.meaning theory.now) (model self.now).vocabulary steps.now hypotheses.now citations.now (verdict_of result) }
     {
         if citations.len() > MAX_CITATIONS {
             return Err(DerivationRefusal {
@@ -59,8 +59,8 @@ impl Book {
         hypotheses: &[u16],
         citations: &[u16],
     ) -> Result<u16, Refusal>
-        ensures exact { (verdict : Result Seq DerivationRefusal) → Judges (meaning theory.now) (model self.old).vocabulary steps.now hypotheses.now citations.now verdict → Comes (conclude (model self.old) verdict citations.now) result (model self.new) }
-        ensures does { Does (meaning theory.now) (model self.old) (concludes steps.now hypotheses.now citations.now result) (model self.new) }
+        ensures exact { (verdict : Result Seq DerivationRefusal) → Judges (T.meaning theory.now) (model self.old).vocabulary steps.now hypotheses.now citations.now verdict → Comes (conclude (model self.old) verdict citations.now) result (model self.new) }
+        ensures does { Does (T.meaning theory.now) (model self.old) (concludes steps.now hypotheses.now citations.now result) (model self.new) }
     {
         let verdict = self.judge(theory, steps, hypotheses, citations);
         self.conclude_by(verdict, citations)

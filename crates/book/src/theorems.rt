@@ -5,7 +5,7 @@ use calculus::theory::Theory;
 
 // The run reckoned by hand, with any theory in which its derivation is right.
 pub fn worked_run_stands<T: Theory>(theory: &T) -> u8
-    ensures { WorkedRun (meaning theory.now) }
+    ensures { WorkedRun (T.meaning theory.now) }
 {
     let _ = theory;
     0

@@ -13,7 +13,7 @@ pub fn enter_and_give<T: Theory>(
     call: Call,
     p: u16,
 ) -> Result<Book, AllocError>
-    ensures { IfOk result (λ b. LeftByARun (meaning theory.now) call p b) }
+    ensures { IfOk result (λ b. LeftByARun (T.meaning theory.now) call p b) }
 {
     let mut b = Book::begin(heap, 7, theory)?;
     let _ = b.enter(call);

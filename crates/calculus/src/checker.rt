@@ -73,10 +73,10 @@ fn is_judged<T: Theory>(
     s: &Sequent,
 ) -> bool
     requires within { i < length steps.now }
-    requires before { RightBelow (meaning theory.now) (model v.now) steps.now list.now i }
+    requires before { RightBelow (T.meaning theory.now) (model v.now) steps.now list.now i }
     requires own { seq s.now ≡ sequent list.now (at steps.now i) }
-    requires earlier { Earlier ((meaning theory.now).arity (at steps.now i).rule) i (at steps.now i) }
-    ensures { Decides result (Judged (meaning theory.now) (model v.now) steps.now list.now (at steps.now i)) }
+    requires earlier { Earlier ((T.meaning theory.now).arity (at steps.now i).rule) i (at steps.now i) }
+    ensures { Decides result (Judged (T.meaning theory.now) (model v.now) steps.now list.now (at steps.now i)) }
 {
     let step = steps[i];
     let n = theory.premises(step.rule);
@@ -109,8 +109,8 @@ fn fault_at<T: Theory>(
     i: usize,
 ) -> Option<Fault>
     requires within { i < length steps.now }
-    requires before { RightBelow (meaning theory.now) (model v.now) steps.now list.now i }
-    ensures { MatchOption result (Right (meaning theory.now) (model v.now) steps.now list.now i (at steps.now i)) (λ f. Fails f (meaning theory.now) (model v.now) steps.now list.now i (at steps.now i)) }
+    requires before { RightBelow (T.meaning theory.now) (model v.now) steps.now list.now i }
+    ensures { MatchOption result (Right (T.meaning theory.now) (model v.now) steps.now list.now i (at steps.now i)) (λ f. Fails f (T.meaning theory.now) (model v.now) steps.now list.now i (at steps.now i)) }
 {
     let step = steps[i];
     let s = match sequent_of(v, list, &step) {
@@ -136,8 +136,8 @@ pub fn check<T: Theory>(
     steps: &[Step],
     list: &[u16],
 ) -> Result<Sequent, Refusal>
-    ensures accepted { Decides (is_ok result) (RightDerivation (meaning theory.now) (model v.now) steps.now list.now) }
-    ensures refused { (e : Refusal) → (result ≡ Err e) ↔ FirstFault e (meaning theory.now) (model v.now) steps.now list.now }
+    ensures accepted { Decides (is_ok result) (RightDerivation (T.meaning theory.now) (model v.now) steps.now list.now) }
+    ensures refused { (e : Refusal) → (result ≡ Err e) ↔ FirstFault e (T.meaning theory.now) (model v.now) steps.now list.now }
     ensures root { IfOk result (λ s. seq s ≡ root steps.now list.now) }
     ensures valid { IfOk result (λ s. Valid (model v.now) (seq s)) }
 {

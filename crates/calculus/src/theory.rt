@@ -37,11 +37,11 @@ pub trait Theory {
 pub struct Joined<F, S>(pub F, pub S);
 
 impl<F: Theory, S: Theory> Theory for Joined<F, S> {
-    ghost meaning = { λ t. joined (F.Theory.meaning t.0) (S.Theory.meaning t.1) };
+    ghost meaning = { λ t. joined (F.meaning t.0) (S.meaning t.1) };
 
-    ghost sound = { λ t. joined_sound (F.Theory.meaning t.0) (S.Theory.meaning t.1) (F.Theory.sound t.0) (S.Theory.sound t.1) };
+    ghost sound = { λ t. joined_sound (F.meaning t.0) (S.meaning t.1) (F.sound t.0) (S.sound t.1) };
 
-    ghost regular = { λ t. joined_regular (F.Theory.meaning t.0) (S.Theory.meaning t.1) (F.Theory.regular t.0) (S.Theory.regular t.1) };
+    ghost regular = { λ t. joined_regular (F.meaning t.0) (S.meaning t.1) (F.regular t.0) (S.regular t.1) };
 
     fn knows(&self, rule: u16) -> bool {
         self.0.knows(rule) | self.1.knows(rule)

@@ -24,9 +24,9 @@ all-copied : (c : goal.After-loop-i) → take (length c.args.list.now) c.loop-i.
 all-copied c =
     whole c.loop-i.hypotheses c.args.list.now c.loop-i.i c.loop-i-test.false c.loop-i.auto.i-end c.loop-i.invariant.1
 
-pub invariant-of-result : goal.invariant-of-result
-invariant-of-result c =
-    (omega arith, (subst Rising (sym (all-copied c)) (c.rises.ensures.0 c.if-not-rises.false), tt))
+pub invariant_of-result : goal.invariant_of-result
+invariant_of-result c =
+    record { few = omega arith; rising = subst Rising (sym (all-copied c)) (c.rises.ensures.0 c.if-not-rises.false) }
 
 pub returns : goal.returns
 returns c =
