@@ -11,8 +11,8 @@ loop-rest-preserved c =
     let space : get_or rest 0 0 ≡ 32 = search rules in
     ap after_spaces (take_rest rest 1) ∙ past_space rest some space ∙ c.loop-rest.invariant
 
-pub returns-in-default : goal.returns-in-default
-returns-in-default c = sym (no_space c.loop-rest.rest.now (λ some space. search rules)) ∙ c.loop-rest.invariant
+pub returns-in_default : goal.returns-in_default
+returns-in_default c = sym (no_space c.loop-rest.rest.now (λ some space. search rules)) ∙ c.loop-rest.invariant
 
-pub returns-in-default·2 : goal.returns-in-default·2
-returns-in-default·2 c = sym (no_space c.loop-rest.rest.now (λ some space. search rules)) ∙ c.loop-rest.invariant
+pub returns-in_default-2 : goal.returns-in_default-2
+returns-in_default-2 c = sym (no_space c.loop-rest.rest.now (λ some space. search rules)) ∙ c.loop-rest.invariant

@@ -9,22 +9,22 @@ loop-n-init g c =
     let whole : g.row.N - 0 ≡ g.row.N = omega arith in
     (length-replicate g.row.N 0, sym (none_read _ ∙ ap (λ k. numbers 16 k (words c.args.text.now)) whole))
 
-pub returns-in-err-word : goal.returns-in-err-word
-returns-in-err-word g c =
-    c.from-residual.ensures
-    ∙ sym (c.loop-n.invariant.1 ∙ too_few g.row.N c.loop-n.n-index c.loop-n.n-items (words c.loop-n.rest.now) (omega arith) c.in-err-word.ensures)
+pub returns-in_err-word : goal.returns-in_err-word
+returns-in_err-word g c =
+    c.from_residual.ensures
+    ∙ sym (c.loop-n.invariant.1 ∙ too_few g.row.N c.loop-n.n-index c.loop-n.n-items (words c.loop-n.rest.now) (omega arith) c.in_err-word.ensures)
 
-pub returns-in-err-n : goal.returns-in-err-n
-returns-in-err-n g c =
-    c.from-residual-in-err-n.ensures
+pub returns-in_err-n : goal.returns-in_err-n
+returns-in_err-n g c =
+    c.from_residual-in_err-n.ensures
     ∙ sym (c.loop-n.invariant.1
-    ∙ no_number g.row.N c.loop-n.n-index c.loop-n.n-items (words c.loop-n.rest.now) c.in-ok-word.word.now (words c.in-ok-word.after.now) (omega arith) c.in-ok-word.ensures (sym c.in-err-n.ensures))
+    ∙ no_number g.row.N c.loop-n.n-index c.loop-n.n-items (words c.loop-n.rest.now) c.in_ok-word.word.now (words c.in_ok-word.after.now) (omega arith) c.in_ok-word.ensures (sym c.in_err-n.ensures))
 
 pub loop-n-preserved : goal.loop-n-preserved
 loop-n-preserved g c = (
-  length-set c.loop-n.n-items c.loop-n.n-index c.in-ok-n.field-0 ∙ c.loop-n.invariant.0,
+  length-set c.loop-n.n-items c.loop-n.n-index c.in_ok-n.field-0 ∙ c.loop-n.invariant.0,
   c.loop-n.invariant.1
-      ∙ number_more g.row.N c.loop-n.n-index c.loop-n.n-items (words c.loop-n.rest.now) c.in-ok-word.word.now (words c.in-ok-word.after.now) c.in-ok-n.field-0 (omega arith) c.loop-n.invariant.0 c.in-ok-word.ensures (sym c.in-ok-n.ensures),
+      ∙ number_more g.row.N c.loop-n.n-index c.loop-n.n-items (words c.loop-n.rest.now) c.in_ok-word.word.now (words c.in_ok-word.after.now) c.in_ok-n.field-0 (omega arith) c.loop-n.invariant.0 c.in_ok-word.ensures (sym c.in_ok-n.ensures),
 )
 
 pub returns-in-Some : goal.returns-in-Some
