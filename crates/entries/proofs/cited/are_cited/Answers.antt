@@ -5,12 +5,12 @@ use Rattle.entries.specs.Concluding.{predicate_of}
 use Rattle.entries.proofs.Scanning.{and_here, and_on}
 use Rattle.entries.proofs.cited.are_cited.Goals as goal
 
-pub returns-then-not-is-cited : goal.returns-then-not-is-cited
-returns-then-not-is-cited c =
+pub returns-then-not-is_cited : goal.returns-then-not-is_cited
+returns-then-not-is_cited c =
     let xs = c.args.hypotheses.now in
     let ps = map (predicate_of c.args.entries.now) c.args.citations.now in
     let i = c.loop-i.i in
-    let tested = sym {b = mem (get_or xs i 0) ps} c.if-not-is-cited.ensures in
+    let tested = sym {b = mem (get_or xs i 0) ps} c.if-not-is_cited.ensures in
     sym (c.loop-i.invariant ∙ and_here (λ (zs : List ℕ). subset zs ps) xs i 0 c.loop-i-test.true (mem (get_or xs i 0) ps) (subset (drop (i + 1) xs) ps) refl tested)
 
 pub loop-i-preserved : goal.loop-i-preserved
@@ -18,7 +18,7 @@ loop-i-preserved c =
     let xs = c.args.hypotheses.now in
     let ps = map (predicate_of c.args.entries.now) c.args.citations.now in
     let i = c.loop-i.i in
-    let tested = sym {b = mem (get_or xs i 0) ps} c.if-not-is-cited.ensures in
+    let tested = sym {b = mem (get_or xs i 0) ps} c.if-not-is_cited.ensures in
     c.loop-i.invariant ∙ and_on (λ (zs : List ℕ). subset zs ps) xs i 0 c.loop-i-test.true (mem (get_or xs i 0) ps) (subset (drop (i + 1) xs) ps) refl tested
 
 pub returns : goal.returns

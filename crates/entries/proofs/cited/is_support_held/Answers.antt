@@ -13,7 +13,7 @@ returns-then-entries-from c =
     let r = c.loop-r.r in
     let set : ℕ → Bool = λ k. in_support k (at es c.args.c) in
     sym (c.loop-r.invariant ∙ or_here (one_held set r) es r no_entry c.loop-r-test.true (set r && is_held (at es r).state) (one_held set (r + 1) (drop (r + 1) es)) refl
-    (ap (λ (b : Bool). set r && b) (sym c.is-held.ensures) ∙ ap (λ (j : ℕ). in_support r (at es j) && c.is-held.result) (sym c.from.ensures) ∙ c.if-entries-from.true))
+    (ap (λ (b : Bool). set r && b) (sym c.is_held.ensures) ∙ ap (λ (j : ℕ). in_support r (at es j) && c.is_held.result) (sym c.from.ensures) ∙ c.if-entries-from.true))
 
 pub loop-r-preserved : goal.loop-r-preserved
 loop-r-preserved c =
@@ -21,7 +21,7 @@ loop-r-preserved c =
     let r = c.loop-r.r in
     let set : ℕ → Bool = λ k. in_support k (at es c.args.c) in
     c.loop-r.invariant ∙ or_on (one_held set r) es r no_entry c.loop-r-test.true (set r && is_held (at es r).state) (one_held set (r + 1) (drop (r + 1) es)) refl
-    (ap (λ (b : Bool). set r && b) (sym c.is-held.ensures) ∙ ap (λ (j : ℕ). in_support r (at es j) && c.is-held.result) (sym c.from.ensures) ∙ c.if-entries-from.false)
+    (ap (λ (b : Bool). set r && b) (sym c.is_held.ensures) ∙ ap (λ (j : ℕ). in_support r (at es j) && c.is_held.result) (sym c.from.ensures) ∙ c.if-entries-from.false)
 
 pub returns : goal.returns
 returns c =

@@ -6,8 +6,8 @@ pub loop-k-preserved : goal.loop-k-preserved
 loop-k-preserved c = (
   c.loop-k.invariant.0,
   c.loop-k.invariant.1,
-  lost_more c.args.r (vec_items c.args.entries.now) (vec_items c.loop-k.entries) c.loop-k.k c.index.result.now c.index-mut.result.now c.state-without-state.result
-      (search rules) (search rules) c.loop-k.invariant.2 c.index.ensures c.index-mut.ensures.value c.state-without-state.ensures,
+  lost_more c.args.r (vec_items c.args.entries.now) (vec_items c.loop-k.entries) c.loop-k.k c.index.result.now c.index_mut.result.now c.state_without-state.result
+      (search rules) (search rules) c.loop-k.invariant.2 c.index.ensures c.index_mut.ensures.value c.state_without-state.ensures,
 )
 
 pub returns : goal.returns

@@ -7,5 +7,5 @@ use Rattle.rules.proofs.instances.is_by_line.Goals as goal
 pub returns : goal.returns
 returns c =
     by_line_answer (model c.args.v.now) (well_formed c.args.v.now) c.args.rule c.args.step.now (seq c.args.s.now) c.args.premises.now
-    c.goal-g.result c.goal-at-p.result c.goal-at-q.result c.substitutions-w.result.0 c.substitutions-w.result.1 c.line-l.result c.line_fits.result
-    c.requires.rule c.requires.count c.goal-g.ensures c.goal-at-p.ensures c.goal-at-q.ensures c.substitutions-w.ensures c.line-l.ensures c.line_fits.ensures
+    c.goal-g.result c.goal_at-p.result c.goal_at-q.result c.substitutions-w.result.0 c.substitutions-w.result.1 c.line-l.result c.line_fits.result
+    c.requires.rule c.requires.count c.goal-g.ensures c.goal_at-p.ensures c.goal_at-q.ensures c.substitutions-w.ensures c.line-l.ensures c.line_fits.ensures

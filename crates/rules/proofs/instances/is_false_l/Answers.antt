@@ -13,5 +13,5 @@ returns-then-premises-gt0 c =
 
 pub returns : goal.returns
 returns c =
-    false_answer (model c.args.v.now) c.args.step.now.a c.args.step.now.b c.args.step.now.c (seq c.args.s.now) c.args.premises.now c.hypotheses.result.now c.lacks-falsity-lacking.result
-    (none_of c.args.premises.now (search rules)) c.hypotheses.ensures c.lacks-falsity-lacking.ensures
+    false_answer (model c.args.v.now) c.args.step.now.a c.args.step.now.b c.args.step.now.c (seq c.args.s.now) c.args.premises.now c.hypotheses.result.now c.lacks_falsity-lacking.result
+    (none_of c.args.premises.now (search rules)) c.hypotheses.ensures c.lacks_falsity-lacking.ensures

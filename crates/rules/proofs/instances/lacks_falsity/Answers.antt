@@ -8,6 +8,6 @@ use Rattle.rules.proofs.instances.lacks_falsity.Goals as goal
 pub returns : goal.returns
 returns c = sym (every_by (λ n. not (is (model c.args.v.now) n False 0 0)) c.args.list.now (λ k l. c.loop-n.invariant k (omega arith)))
 
-pub returns-then-is-falsity : goal.returns-then-is-falsity
-returns-then-is-falsity c =
-    sym (every_not (λ n. not (is (model c.args.v.now) n False 0 0)) c.args.list.now c.loop-n.n-index (omega arith) (ap not (sym c.if-is-falsity.ensures)))
+pub returns-then-is_falsity : goal.returns-then-is_falsity
+returns-then-is_falsity c =
+    sym (every_not (λ n. not (is (model c.args.v.now) n False 0 0)) c.args.list.now c.loop-n.n-index (omega arith) (ap not (sym c.if-is_falsity.ensures)))

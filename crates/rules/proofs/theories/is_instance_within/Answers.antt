@@ -13,8 +13,8 @@ returns-then-above-from c =
     count_answer c.args.low c.args.high (model c.args.v.now) c.args.step.now (seq c.args.s.now) c.args.above.now
     (λ e. c.if-above-from.true (e ∙ sym c.premises.ensures ∙ sym c.from.ensures))
 
-pub is-instance-of-requires : goal.is-instance-of-requires
-is-instance-of-requires c =
+pub is_instance_of-requires : goal.is_instance_of-requires
+is_instance_of-requires c =
     let e : length c.args.above.now ≡ get_or arities (c.args.step.now.rule - 1) 0 = search rules in
     let l : 1 ≤ c.args.step.now.rule = search rules in
     let h : c.args.step.now.rule ≤ 25 = search rules in
@@ -24,6 +24,6 @@ pub returns : goal.returns
 returns c =
     let l : 1 ≤ c.args.step.now.rule = search rules in
     let h : c.args.step.now.rule ≤ 25 = search rules in
-    rule_answer c.args.low c.args.high (model c.args.v.now) c.args.step.now (seq c.args.s.now) c.args.above.now c.is-instance-of.result
-    (sym c.if-not-knows-within.ensures) l h
-    (subst (λ (r : Rule). Decides c.is-instance-of.result (Instance (model c.args.v.now) r c.args.step.now.a c.args.step.now.b c.args.step.now.c (seqs c.args.above.now) (seq c.args.s.now))) c.rule_of.ensures c.is-instance-of.ensures)
+    rule_answer c.args.low c.args.high (model c.args.v.now) c.args.step.now (seq c.args.s.now) c.args.above.now c.is_instance_of.result
+    (sym c.if-not-knows_within.ensures) l h
+    (subst (λ (r : Rule). Decides c.is_instance_of.result (Instance (model c.args.v.now) r c.args.step.now.a c.args.step.now.b c.args.step.now.c (seqs c.args.above.now) (seq c.args.s.now))) c.rule_of.ensures c.is_instance_of.ensures)
