@@ -16,9 +16,9 @@ returns g c =
     let cites = c.args.citations.now in
     let one = verdict_of c.judge-verdict.result in
     let judged = c.judge-verdict.ensures in
-    let came : Comes (conclude b one cites) c.conclude-by.result (model c.conclude-by.new.self) = (c.conclude-by.ensures.answer, c.conclude-by.ensures.after) in
+    let came : Comes (conclude b one cites) c.conclude_by.result (model c.conclude_by.new.self) = (c.conclude_by.ensures.answer, c.conclude_by.ensures.after) in
     record {
-      exact = λ verdict j. subst (λ (u : Result Seq DerivationRefusal). Comes (conclude b u cites) c.conclude-by.result (model c.conclude-by.new.self))
+      exact = λ verdict j. subst (λ (u : Result Seq DerivationRefusal). Comes (conclude b u cites) c.conclude_by.result (model c.conclude_by.new.self))
           (one_verdict m b.vocabulary xs hs cites one verdict judged j) came;
       does = (one, judged, came);
     }
