@@ -6,4 +6,4 @@ pub returns-in-NotUnderstood-clause-writes : goal.returns-in-NotUnderstood-claus
 returns-in-NotUnderstood-clause-writes g c = let e = ap reply_text c.in-NotUnderstood.is in λ plain ok. rw e (c.write-in-NotUnderstood.ensures.writes plain ok)
 
 pub returns-in-NoSuchHold-clause-writes : goal.returns-in-NoSuchHold-clause-writes
-returns-in-NoSuchHold-clause-writes g c = let e = ap reply_text c.in-NoSuchHold.is in λ plain ok. rw e (c.write-str-in-NoSuchHold.ensures.writes plain ok)
+returns-in-NoSuchHold-clause-writes g c = let e = ap reply_text c.in-NoSuchHold.is in λ plain ok. rw e (c.write_str-in-NoSuchHold.ensures.writes plain ok)
