@@ -11,9 +11,9 @@ returns-in-Ok c =
     let bs = vec_items c.args.books.now in
     let k = c.in-Held.granted_by in
     let x = c.in-Held.hold in
-    let b = c.index-mut.result.now in
+    let b = c.index_mut.result.now in
     let within : k < length bs = search rules in
-    let at = here bs k b within c.index-mut.ensures.value in
+    let at = here bs k b within c.index_mut.ensures.value in
     record {
       answer = closes (modelled bs) k (model b) x c.args.held c.args.h (Ok c.in-Ok.field-0) c.in-Held.is at (sym c.in-Ok.is ∙ c.lift.ensures.answer);
       after = put bs k c.lift.new.self (lift (model b) x).after c.lift.ensures.after ∙ closed_so (modelled bs) k (model b) x c.args.held c.in-Held.is at;
@@ -25,9 +25,9 @@ returns-in-Err c =
     let bs = vec_items c.args.books.now in
     let k = c.in-Held.granted_by in
     let x = c.in-Held.hold in
-    let b = c.index-mut.result.now in
+    let b = c.index_mut.result.now in
     let within : k < length bs = search rules in
-    let at = here bs k b within c.index-mut.ensures.value in
+    let at = here bs k b within c.index_mut.ensures.value in
     record {
       answer = closes (modelled bs) k (model b) x c.args.held c.args.h (Err c.in-Err.field-0) c.in-Held.is at (sym c.in-Err.is ∙ c.lift.ensures.answer);
       after = put bs k c.lift.new.self (lift (model b) x).after c.lift.ensures.after ∙ closed_so (modelled bs) k (model b) x c.args.held c.in-Held.is at;

@@ -9,8 +9,8 @@ use Rattle.script.proofs.Holding.{some_reply, some_after, none_reply, none_after
 use Rattle.script.proofs.Shelved.{here, nowhere, put, set_nth, in_hand, not_in_hand}
 use Rattle.script.proofs.store.Session.call_with_hold.Goals as goal
 
-pub returns-in-default : goal.returns-in-default
-returns-in-default c =
+pub returns-in_default : goal.returns-in_default
+returns-in_default c =
     let s = c.args.self.now in
     let past : length (vec_items s.books) ≤ s.current = search rules in
     let at = nowhere (vec_items s.books) s.current past in
@@ -19,19 +19,19 @@ returns-in-default c =
       after = sym (ap (λ o. hold_called (model s) c.args.call c.args.h o (slice_get (vec_items s.holds) c.args.h)) at);
     }
 
-pub invariant-of-self-in-Some-get-mut : goal.invariant-of-self-in-Some-get-mut
-invariant-of-self-in-Some-get-mut c =
+pub invariant_of-self-in-Some-get_mut : goal.invariant_of-self-in-Some-get_mut
+invariant_of-self-in-Some-get_mut c =
     let s = c.args.self.now in
     let holds = vec_items s.holds in
-    let x = c.in-Some-get-mut.held.now in
+    let x = c.in-Some-get_mut.held.now in
     let within : c.args.h < length holds = search rules in
     let is : x ≡ get_or holds c.args.h x = search rules in
     let n = vec_len s.books in
     let g = still_granted n c.args.call (book.model c.in-Some.book.now) x (at_granted n holds c.args.h x s.granted within is) in
-    (set_granted n holds c.args.h c.undergo.new.self s.granted (subst (GrantedBy n) (sym c.undergo.ensures.hand) g), tt)
+    record { granted = set_granted n holds c.args.h c.undergo.new.self s.granted (subst (GrantedBy n) (sym c.undergo.ensures.hand) g) }
 
-pub returns-in-Some-get-mut : goal.returns-in-Some-get-mut
-returns-in-Some-get-mut c =
+pub returns-in-Some-get_mut : goal.returns-in-Some-get_mut
+returns-in-Some-get_mut c =
     let s = c.args.self.now in
     let books = vec_items s.books in
     let b = c.in-Some.book.now in
@@ -41,7 +41,7 @@ returns-in-Some-get-mut c =
     let holds = vec_items s.holds in
     let h = c.args.h in
     let d = c.args.call in
-    let x = c.in-Some-get-mut.held.now in
+    let x = c.in-Some-get_mut.held.now in
     let near : h < length holds = search rules in
     let this : x ≡ get_or holds h x = search rules in
     let f = in_hand holds h x near this in

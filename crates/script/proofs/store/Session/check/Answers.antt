@@ -14,12 +14,12 @@ returns c =
     let is : b ≡ get_or shelf s.current b = search rules in
     let at = here shelf s.current b within is in
     record {
-      answer = tried_here (model s) (books.model b) c.as-slice.result.now c.as-slice-2.result.now c.judge-reply.result at c.as-slice.ensures.value c.as-slice-2.ensures.value c.judge-reply.ensures;
+      answer = tried_here (model s) (books.model b) c.as_slice.result.now c.as_slice-2.result.now c.judge-reply.result at c.as_slice.ensures.value c.as_slice-2.ensures.value c.judge-reply.ensures;
       after = begun_anew (model s) (books.model b) (vec_items c.clear.new.self) (vec_items c.clear-2.new.self) at c.clear.ensures.items c.clear-2.ensures.items;
     }
 
-pub returns-in-default : goal.returns-in-default
-returns-in-default c =
+pub returns-in_default : goal.returns-in_default
+returns-in_default c =
     let s = c.args.self.now in
     let shelf = vec_items s.books in
     let past : length shelf ≤ s.current = search rules in

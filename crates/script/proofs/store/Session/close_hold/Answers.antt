@@ -8,12 +8,12 @@ use Rattle.script.proofs.Holding.{closed_here, closed_after}
 use Rattle.script.proofs.Shelved.{in_hand, not_in_hand}
 use Rattle.script.proofs.store.Session.close_hold.Goals as goal
 
-pub returns-in-err-get-mut : goal.returns-in-err-get-mut
-returns-in-err-get-mut c =
+pub returns-in_err-get_mut : goal.returns-in_err-get_mut
+returns-in_err-get_mut c =
     let s = c.args.self.now in
     let past : length (vec_items s.holds) ≤ c.args.h = search rules in
     let f = not_in_hand (vec_items s.holds) c.args.h past in
-    record { answer = c.from-residual.ensures ∙ sym (ap (closed_reply_of (model s) c.args.h) f); after = sym (ap (closed_of (model s) c.args.h) f) }
+    record { answer = c.from_residual.ensures ∙ sym (ap (closed_reply_of (model s) c.args.h) f); after = sym (ap (closed_of (model s) c.args.h) f) }
 
 pub close-requires : goal.close-requires
 close-requires c =
@@ -24,12 +24,12 @@ close-requires c =
     let is : x ≡ get_or holds c.args.h x = search rules in
     at_granted (vec_len s.books) holds c.args.h x s.granted within is
 
-pub invariant-of-self-2 : goal.invariant-of-self-2
-invariant-of-self-2 c =
+pub invariant_of-self-2 : goal.invariant_of-self-2
+invariant_of-self-2 c =
     let s = c.args.self.now in
     let n = vec_len s.books in
     let t = set_granted n (vec_items s.holds) c.args.h c.replace-held.new.dest s.granted (subst (GrantedBy n) (sym c.replace-held.ensures.after) tt) in
-    (subst (λ m. all_granted m (set (vec_items s.holds) c.args.h c.replace-held.new.dest) ≡ true) (sym c.close.ensures.len) t, tt)
+    record { granted = subst (λ m. all_granted m (set (vec_items s.holds) c.args.h c.replace-held.new.dest) ≡ true) (sym c.close.ensures.len) t }
 
 pub returns : goal.returns
 returns c =

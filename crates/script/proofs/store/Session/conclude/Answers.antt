@@ -6,8 +6,8 @@ use Rattle.script.proofs.Holding.{emptied, concluded_here}
 use Rattle.script.proofs.Shelved.{here, nowhere, put}
 use Rattle.script.proofs.store.Session.conclude.Goals as goal
 
-pub returns-in-default : goal.returns-in-default
-returns-in-default c =
+pub returns-in_default : goal.returns-in_default
+returns-in_default c =
     let s = c.args.self.now in
     let past : length (vec_items s.books) ≤ s.current = search rules in
     let at = nowhere (vec_items s.books) s.current past in
@@ -21,5 +21,5 @@ returns c =
     let within : s.current < length books = search rules in
     let is : b ≡ get_or books s.current b = search rules in
     let at = here books s.current b within is in
-    concluded_here (model s) _ (book.model b) (book.model c.conclude.new.self) c.as-slice-steps.result.now c.as-slice-hypotheses.result.now c.args.citations.now c.conclude.result c.entered-reply.result at c.as-slice-steps.ensures.value c.as-slice-hypotheses.ensures.value c.conclude.ensures.does c.entered-reply.ensures
+    concluded_here (model s) _ (book.model b) (book.model c.conclude.new.self) c.as_slice-steps.result.now c.as_slice-hypotheses.result.now c.args.citations.now c.conclude.result c.entered-reply.result at c.as_slice-steps.ensures.value c.as_slice-hypotheses.ensures.value c.conclude.ensures.does c.entered-reply.ensures
     (emptied (model s) _ _ (vec_items c.clear.new.self) (vec_items c.clear-2.new.self) (put books s.current c.conclude.new.self (book.model c.conclude.new.self) refl) c.clear.ensures.items c.clear-2.ensures.items)

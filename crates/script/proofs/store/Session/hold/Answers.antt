@@ -10,22 +10,22 @@ use Rattle.script.proofs.Holding.{granted_reply, granted_after}
 use Rattle.script.proofs.Shelved.{here, nowhere, put}
 use Rattle.script.proofs.store.Session.hold.Goals as goal
 
-pub returns-in-default : goal.returns-in-default
-returns-in-default c =
+pub returns-in_default : goal.returns-in_default
+returns-in_default c =
     let s = c.args.self.now in
     let past : length (vec_items s.books) ≤ s.current = search rules in
     let at = nowhere (vec_items s.books) s.current past in
-    record { answer = sym (ap (held_reply_by (model s) c.args.e) at); after = ap (with_holds (model s)) c.in-ok-reserve.ensures.items ∙ sym (ap (held_by (model s) c.args.e) at); refused = tt }
+    record { answer = sym (ap (held_reply_by (model s) c.args.e) at); after = ap (with_holds (model s)) c.in_ok-reserve.ensures.items ∙ sym (ap (held_by (model s) c.args.e) at); refused = tt }
 
-pub invariant-of-self-in-Ok : goal.invariant-of-self-in-Ok
-invariant-of-self-in-Ok c =
+pub invariant_of-self-in-Ok : goal.invariant_of-self-in-Ok
+invariant_of-self-in-Ok c =
     let s = c.args.self.now in
     let xs = vec_items s.holds in
     let x = Held c.in-Ok.hold s.current in
     let n = vec_len s.books in
     let within : s.current < n = search rules in
-    let items = c.push-reserved.ensures.items ∙ ap (λ l. l ++ x ∷ []) c.in-ok-reserve.ensures.items in
-    (ap (all_granted n) items ∙ hold_granted n xs x s.granted within, tt)
+    let items = c.push_reserved.ensures.items ∙ ap (λ l. l ++ x ∷ []) c.in_ok-reserve.ensures.items in
+    record { granted = ap (all_granted n) items ∙ hold_granted n xs x s.granted within }
 
 pub returns-in-Ok : goal.returns-in-Ok
 returns-in-Ok c =
@@ -37,8 +37,8 @@ returns-in-Ok c =
     let at = here books s.current b within is in
     let o = sym c.in-Ok.is ∙ c.hold.ensures.answer in
     record {
-      answer = granted_reply (model s) c.args.e (book.model b) at (Ok c.in-Ok.hold) o c.len-n.result (omega (arith, c.in-ok-reserve.ensures.len));
-      after = granted_after (model s) c.args.e (book.model b) at (Ok c.in-Ok.hold) o _ _ (put books s.current c.hold.new.self (definitions.hold (book.model b) c.args.e).after c.hold.ensures.after) (c.push-reserved.ensures.items ∙ ap (λ l. l ++ Held c.in-Ok.hold s.current ∷ []) c.in-ok-reserve.ensures.items);
+      answer = granted_reply (model s) c.args.e (book.model b) at (Ok c.in-Ok.hold) o c.len-n.result (omega (arith, c.in_ok-reserve.ensures.len));
+      after = granted_after (model s) c.args.e (book.model b) at (Ok c.in-Ok.hold) o _ _ (put books s.current c.hold.new.self (definitions.hold (book.model b) c.args.e).after c.hold.ensures.after) (c.push_reserved.ensures.items ∙ ap (λ l. l ++ Held c.in-Ok.hold s.current ∷ []) c.in_ok-reserve.ensures.items);
       refused = tt;
     }
 
@@ -54,6 +54,6 @@ returns-in-Err c =
     let holds = vec_items s.holds in
     record {
       answer = ap (λ n. Refused n) c.notice.ensures ∙ granted_reply (model s) c.args.e (book.model b) at (Err c.in-Err.refusal) o (length holds) refl;
-      after = granted_after (model s) c.args.e (book.model b) at (Err c.in-Err.refusal) o _ _ (put books s.current c.hold.new.self (definitions.hold (book.model b) c.args.e).after c.hold.ensures.after) (c.in-ok-reserve.ensures.items ∙ sym (append-nil holds));
+      after = granted_after (model s) c.args.e (book.model b) at (Err c.in-Err.refusal) o _ _ (put books s.current c.hold.new.self (definitions.hold (book.model b) c.args.e).after c.hold.ensures.after) (c.in_ok-reserve.ensures.items ∙ sym (append-nil holds));
       refused = tt;
     }

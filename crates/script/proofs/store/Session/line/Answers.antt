@@ -8,6 +8,6 @@ returns c =
     let s = model c.args.self.now in
     let u = model c.obey.new.self in
     record {
-      does = (u, subst (λ l. Did s (request l) c.in-ok-reply.reply u) c.without_ending.ensures c.in-ok-reply.ensures.does, ap (λ k. counted k u) c.next-line-number.ensures);
+      does = (u, subst (λ l. Did s (request l) c.in_ok-reply.reply u) c.without_ending.ensures c.in_ok-reply.ensures.does, ap (λ k. counted k u) c.next_line-number.ensures);
       refused = tt;
     }

@@ -24,20 +24,20 @@ returns-in-Asks c =
       refused = c.run.ensures.refused;
     }
 
-pub returns-in-ok-append : goal.returns-in-ok-append
-returns-in-ok-append c =
+pub returns-in_ok-append-in-Hypotheses : goal.returns-in_ok-append-in-Hypotheses
+returns-in_ok-append-in-Hypotheses c =
     let s = model c.args.self.now in
     let q = request c.args.line.now in
-    let ns = vec_items c.in-ok-numbers.numbers in
-    let has = subst (Has q) (sym c.in-ok-numbers.ensures) (has_numbers c.args.line.now) in
-    record { does = did_append s (model c.append.new.self) None q ns c.in-Hypotheses.ensures has refl (c.in-ok-append.ensures.after ∙ ap (appended s) c.as-slice.ensures.value); refused = tt }
+    let ns = vec_items c.in_ok-numbers-in-Hypotheses.numbers in
+    let has = subst (Has q) (sym c.in_ok-numbers-in-Hypotheses.ensures) (has_numbers c.args.line.now) in
+    record { does = did_append s (model c.append.new.self) None q ns c.in-Hypotheses.ensures has refl (c.in_ok-append-in-Hypotheses.ensures.after ∙ ap (appended s) c.as_slice.ensures.value); refused = tt }
 
-pub returns-in-ok-citations : goal.returns-in-ok-citations
-returns-in-ok-citations c =
+pub returns-in_ok-citations-in-Conclude : goal.returns-in_ok-citations-in-Conclude
+returns-in_ok-citations-in-Conclude c =
     let s = model c.args.self.now in
     let q = request c.args.line.now in
-    let ns = vec_items c.in-ok-citations.citations in
+    let ns = vec_items c.in_ok-citations-in-Conclude.citations in
     let r = c.conclude.result in
     let t = model c.conclude.new.self in
-    let has = subst (Has q) (sym c.in-ok-citations.ensures) (has_numbers c.args.line.now) in
-    record { does = did_conclude s t (Some r) q ns r c.in-Conclude.ensures has refl (subst (λ l. Concludes s l (current_book s) r t) c.as-slice-in-Conclude.ensures.value c.conclude.ensures); refused = tt }
+    let has = subst (Has q) (sym c.in_ok-citations-in-Conclude.ensures) (has_numbers c.args.line.now) in
+    record { does = did_conclude s t (Some r) q ns r c.in-Conclude.ensures has refl (subst (λ l. Concludes s l (current_book s) r t) c.as_slice-in-Conclude.ensures.value c.conclude.ensures); refused = tt }
