@@ -3,6 +3,7 @@ use calculus::Step;
 use calculus_tests::truth::TruthRule;
 use formulas::calls::Call;
 use states::{Refusal, State};
+use std::process::Abort;
 use std::test::*;
 
 // ⊤, which is formula 0, from itself.
@@ -19,11 +20,11 @@ const TOP: Step = Step {
 };
 
 // A book with ⊤ given as entry 0 and concluded from it as entry 1.
-fn begun(rt: HostRuntime) -> Result<Book, Fail> {
+fn begun(rt: &(impl Abort + AllocGlobal)) -> Result<Book, Fail> {
     let mut b = Book::begin(rt.alloc(), 7, &TruthRule)?;
-    assert_eq!(b.enter(Call::EnterFormula(3, 0, 0))?, 0);
-    assert_eq!(b.give(0)?, 0);
-    assert_eq!(b.conclude(&TruthRule, &[TOP], &[0], &[0])?, 1);
+    assert_eq!(rt; b.enter(Call::EnterFormula(3, 0, 0))?, 0);
+    assert_eq!(rt; b.give(0)?, 0);
+    assert_eq!(rt; b.conclude(&TruthRule, &[TOP], &[0], &[0])?, 1);
     Ok(b)
 }
 
@@ -33,7 +34,7 @@ fn state_of(b: &Book, e: u16) -> Result<State, Fail> {
 
 #[test]
 fn withdrawn(rt: HostRuntime) -> Result<(), Fail> {
-    let mut b = begun(rt)?;
+    let mut b = begun(&rt)?;
     let Ok(h) = b.hold(0) else {
         return Err(Fail::new("not held"));
     };
@@ -55,7 +56,7 @@ fn withdrawn(rt: HostRuntime) -> Result<(), Fail> {
 
 #[test]
 fn held(rt: HostRuntime) -> Result<(), Fail> {
-    let mut b = begun(rt)?;
+    let mut b = begun(&rt)?;
     assert_eq!(rt; b.ask_predicate(0)?, Some(0));
     let Ok(h) = b.hold(0) else {
         return Err(Fail::new("not held"));

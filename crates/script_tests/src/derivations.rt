@@ -2,6 +2,7 @@
 use replies::reply::Reply;
 use script::Session;
 use std::alloc::AllocError;
+use std::process::Abort;
 use std::test::*;
 
 // Variables x and y, and a set S. The formulas: 0 x, 1 y, 2 P = x∈S, 3 Q = y∈S, 4 ⊥, 5 ⊤, 6 ¬P, 7 ¬Q, 8 P∧Q, 9 P∨Q,
@@ -362,30 +363,29 @@ fn last_reply(session: &mut Session, script: &str) -> Result<Option<Reply>, Allo
 
 // Runs a script, and compares what is printed for its last line.
 fn answers(
-    rt: &HostRuntime,
+    rt: &(impl Abort + AllocGlobal),
     session: &mut Session,
     script: &str,
     expected: &str,
 ) -> Result<(), Fail> {
     match last_reply(session, script)? {
-        Some(reply) => {
-            assert_eq!(reply.to_string(rt.alloc())?.as_str(), expected);
-            Ok(())
-        },
-        None => {
-            assert_eq!("", expected);
-            Ok(())
-        },
+        Some(reply) => assert_eq!(rt; reply.to_string(rt.alloc())?.as_str(), expected),
+        None => assert_eq!(rt; "", expected),
     }
+    Ok(())
 }
 
 // Each script after the vocabulary, and what is printed for its last line.
-fn all_answer(rt: &HostRuntime, session: &mut Session, table: &[(&str, &str)]) -> Result<(), Fail> {
+fn all_answer(
+    rt: &(impl Abort + AllocGlobal),
+    session: &mut Session,
+    table: &[(&str, &str)],
+) -> Result<(), Fail> {
     enter_vocabulary(session)?;
     for (script, verdict) in table {
         answers(rt, session, script, verdict)?;
     }
-    assert!(session.understood());
+    assert!(rt; session.understood());
     Ok(())
 }
 
@@ -415,7 +415,7 @@ fn edges(rt: HostRuntime) -> Result<(), Fail> {
 
 // A derivation of so many steps, each {P} ⊢ P, with so many numbers in its list.
 fn is_sized(
-    rt: &HostRuntime,
+    rt: &(impl Abort + AllocGlobal),
     session: &mut Session,
     steps: u16,
     numbers: u16,
@@ -430,7 +430,7 @@ fn is_sized(
     answers(rt, session, "check", expected)
 }
 
-fn all_are_sized(rt: &HostRuntime, session: &mut Session) -> Result<(), Fail> {
+fn all_are_sized(rt: &(impl Abort + AllocGlobal), session: &mut Session) -> Result<(), Fail> {
     enter_vocabulary(session)?;
     is_sized(rt, session, 0, 0, "refused 20 derivation 0")?;
     is_sized(rt, session, 256, 4096, "right")?;
@@ -470,7 +470,7 @@ const WRITTEN: [(&str, &str); 20] = [
     ("check", "refused 20 derivation 0"),
 ];
 
-fn is_written(rt: &HostRuntime, session: &mut Session) -> Result<(), Fail> {
+fn is_written(rt: &(impl Abort + AllocGlobal), session: &mut Session) -> Result<(), Fail> {
     for (line, expected) in WRITTEN {
         answers(rt, session, line, expected)?;
     }

@@ -1,6 +1,7 @@
 // Giving, concluding, holding and withdrawing, as scripts.
 use replies::reply::Reply;
 use script::Session;
+use std::process::Abort;
 use std::test::*;
 
 // Book 1 has the formulas 0 ⊤ and 1 ¬⊤, book 2 has ⊤. Hold 0 is lifted, hold 1 ends in a withdrawal, and the holds 2 and 3
@@ -68,24 +69,23 @@ const SCRIPT: [(&str, &str); 57] = [
     ("hold", "line 57: not understood"),
 ];
 
-fn is_printed(rt: &HostRuntime, reply: Option<Reply>, expected: &str) -> Result<(), Fail> {
+fn is_printed(
+    rt: &(impl Abort + AllocGlobal),
+    reply: Option<Reply>,
+    expected: &str,
+) -> Result<(), Fail> {
     match reply {
-        Some(reply) => {
-            assert_eq!(reply.to_string(rt.alloc())?.as_str(), expected);
-            Ok(())
-        },
-        None => {
-            assert_eq!("", expected);
-            Ok(())
-        },
+        Some(reply) => assert_eq!(rt; reply.to_string(rt.alloc())?.as_str(), expected),
+        None => assert_eq!(rt; "", expected),
     }
+    Ok(())
 }
 
-fn holds_are_answered(rt: &HostRuntime, session: &mut Session) -> Result<(), Fail> {
+fn holds_are_answered(rt: &(impl Abort + AllocGlobal), session: &mut Session) -> Result<(), Fail> {
     for (line, expected) in SCRIPT {
         is_printed(rt, session.line(line.as_bytes())?, expected)?;
     }
-    assert_eq!(session.holds(), 4);
+    assert_eq!(rt; session.holds(), 4);
     is_printed(rt, session.close_hold(0), "")?;
     is_printed(rt, session.close_hold(1), "")?;
     is_printed(rt, session.close_hold(2), "lifted 2 at close")?;
@@ -98,6 +98,47 @@ fn holds_are_answered(rt: &HostRuntime, session: &mut Session) -> Result<(), Fai
 fn scripts_with_holds_are_answered(rt: HostRuntime) -> Result<(), Fail> {
     let mut session = Session::new(rt.alloc());
     let outcome = holds_are_answered(&rt, &mut session);
+    session.end();
+    outcome
+}
+
+// A citation is refused at its place: after one that repeats it, while its rule is held, and once its rule is withdrawn.
+const CITED: [(&str, &str); 19] = [
+    ("book 1", "book 1"),
+    ("formula 3 0 0", "formula 0"),
+    ("formula 4 0 0", "formula 1"),
+    ("give 0", "entry 0"),
+    ("give 1", "entry 1"),
+    ("hypotheses 1", ""),
+    ("step 1 1 0 1 0 0 0 0 0", ""),
+    ("conclude 1 1", "refused 26 book 1"),
+    ("hypotheses 1", ""),
+    ("step 1 1 0 1 0 0 0 0 0", ""),
+    ("conclude 1", "entry 2"),
+    ("hold 1", "hold 0"),
+    ("hypotheses 0 1", ""),
+    ("step 1 0 0 2 0 0 0 0 0", ""),
+    ("conclude 0 1", "refused 28 book 1"),
+    ("withdraw 0", "fell 1 2"),
+    ("hypotheses 0 1", ""),
+    ("step 1 0 0 2 0 0 0 0 0", ""),
+    ("conclude 0 2", "refused 27 book 1"),
+];
+
+fn citations_are_answered(
+    rt: &(impl Abort + AllocGlobal),
+    session: &mut Session,
+) -> Result<(), Fail> {
+    for (line, expected) in CITED {
+        is_printed(rt, session.line(line.as_bytes())?, expected)?;
+    }
+    Ok(())
+}
+
+#[test]
+fn citations_are_refused_at_their_place(rt: HostRuntime) -> Result<(), Fail> {
+    let mut session = Session::new(rt.alloc());
+    let outcome = citations_are_answered(&rt, &mut session);
     session.end();
     outcome
 }
@@ -117,7 +158,7 @@ const TWINS: [(&str, &str); 11] = [
     ("lift 1", "refused 33 book 0"),
 ];
 
-fn twins_are_answered(rt: &HostRuntime, session: &mut Session) -> Result<(), Fail> {
+fn twins_are_answered(rt: &(impl Abort + AllocGlobal), session: &mut Session) -> Result<(), Fail> {
     for (line, expected) in TWINS {
         is_printed(rt, session.line(line.as_bytes())?, expected)?;
     }
@@ -135,7 +176,7 @@ fn a_hold_may_be_discarded(rt: HostRuntime) -> Result<(), Fail> {
 }
 
 // A book has at most 512 entries.
-fn fills(rt: &HostRuntime, session: &mut Session) -> Result<(), Fail> {
+fn fills(rt: &(impl Abort + AllocGlobal), session: &mut Session) -> Result<(), Fail> {
     session.line(b"book 1")?;
     session.line(b"formula 3 0 0")?;
     for _ in 0..511 {
