@@ -1,10 +1,9 @@
 #!/bin/sh
 # Two misuses of a hold are refused when a program is compiled: letting one go, and ending one twice.
 # The small program below compiles as it is, and with each edit it has that error and no other.
-# Nothing is proved here: the kit's front end alone reads the program and the crates under it, as sources.
+# Nothing is proved here: the kit's front end alone reads the program and the crates under it, as sources, in a folder of their own.
 set -eu
 here=$(cd "$(dirname "$0")" && pwd)
-kit=$(dirname "$(dirname "$(rt doc)")")
 work=$(mktemp -d)
 trap 'rm -rf "$work"' EXIT
 
@@ -16,9 +15,24 @@ under() {
     done | awk '!seen[$0]++'
 }
 
+# A repository of the program and the sources that it stands on.
+mkdir -p "$work/crates/holder/src"
+for name in $(under book) book; do
+    mkdir "$work/crates/$name"
+    for part in src specs; do
+        if [ -d "$here/crates/$name/$part" ]; then
+            cp -R "$here/crates/$name/$part" "$work/crates/$name/"
+        fi
+    done
+    grep "^$name:" "$here/crates.txt" >>"$work/crates.txt"
+done
+echo 'holder: book' >>"$work/crates.txt"
+
 # The program, with what it does to the hold.
 program() {
-    cat >"$work/main.rt" <<P
+    cat >"$work/crates/holder/src/main.rt" <<P
+#![tactic(auto)]
+
 use book::Book;
 use book::Refused;
 
@@ -40,16 +54,9 @@ fn main() {}
 P
 }
 
-# The errors of the program, each once, or 'compiled'. It is read with the kit's libraries, `book` and the crates under that.
+# The errors of the program, each once, or 'compiled'.
 errors() {
-    set -- "$work/main.rt" --crate-name holder
-    while IFS=: read -r name uses; do
-        set -- "$@" --lib "$name:$(echo $uses | tr ' ' ,)=$kit/$name/src/lib.rt"
-    done <"$kit/libs.txt"
-    for name in $(under book) book; do
-        set -- "$@" --lib "$name=$here/crates/$name/src/lib.rt"
-    done
-    if out=$("$kit/bin/rattle-print-mir" "$@" 2>&1); then
+    if out=$(cd "$work/crates/holder" && rt try 2>&1 </dev/null); then
         echo compiled
     else
         printf '%s\n' "$out" | grep -o 'error\[[a-z0-9-]*\]' | sort -u | tr '\n' ' ' | sed 's/ $//'

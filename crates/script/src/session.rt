@@ -10,7 +10,7 @@ use book::Book;
 use calculus::Step;
 use commands::command::{Call, Command, HoldCall, Line, read_line, without_ending};
 use commands::words::numbers_after;
-use replies::book::{answer, entered, judge};
+use replies::answers::{answer, entered, judge};
 use replies::hand::InHand;
 use replies::reply::Reply;
 use rules::standard::standard_theory;

@@ -2,7 +2,7 @@ use Rattle.std.proofs.Common.{sym, subst}
 use Rattle.book.specs.View.{model}
 use Rattle.replies.specs.Books.{Verdict}
 use Rattle.replies.proofs.Judging.{judged}
-use Rattle.replies.proofs.book.judge.Goals as goal
+use Rattle.replies.proofs.answers.judge.Goals as goal
 
 pub returns : goal.returns
 returns c =
