@@ -24,7 +24,7 @@ use Rattle.states.specs.Support.{in_support}
 use Rattle.entries.specs.Lists.{Change, no_entry, at}
 use Rattle.entries.specs.Concluding as concluding
 use Rattle.entries.specs.Concluding.{disorder, does_not_stand, one_held, support_held, predicate_of, same_set, joined, row, conclusion, unless}
-use Rattle.book.specs.Books.{Model, refuse, with_entries}
+use Rattle.book.specs.Books.{Model, with_entries}
 use Rattle.book.specs.Concluding.{Judges, conclude}
 use Rattle.book.specs.Runs.{concludes}
 use Rattle.book.proofs.Effects.{concluded_by, effect, Effects, IsWithdrawn, IsHeld}

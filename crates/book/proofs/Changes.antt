@@ -1,5 +1,5 @@
 -- States after hold, lift and withdraw.
-use Rattle.std.proofs.Common.{◌≡◌, ℕ, ◌-◌, ◌<◌, Bool, true, false, cond, T, eqb, ◌⊎◌, List, ◌∷◌, map, length, set, sym, refl, ap, ◌∙◌, subst, inl, inr, ⊎_elim, arith, length-set}
+use Rattle.std.proofs.Common.{◌≡◌, ℕ, ◌<◌, Bool, true, false, cond, T, eqb, ◌⊎◌, List, ◌∷◌, map, length, set, sym, refl, ap, ◌∙◌, subst, inl, inr, ⊎_elim, arith, length-set}
 use lib.ListN.{length-map}
 use Rattle.logic.specs.Formulas.{Vocabulary}
 use Rattle.states.specs.declared.entry.Entry.{Entry}

@@ -1,7 +1,7 @@
 -- Each call on the vocabulary keeps what agrees between the effects and the book.
-use Rattle.std.proofs.Common.{◌≡◌, ℕ, ◌-◌, ◌∷◌, sym, refl, ap, ◌∙◌, subst, inl, inr}
+use Rattle.std.proofs.Common.{◌≡◌, ℕ, ◌∷◌, sym, refl, ap, ◌∙◌, subst, inl, inr}
 use Rattle.logic.specs.Formulas.{Vocabulary, WellFormed}
-use Rattle.book.specs.Books.{Model, Outcome, with_vocabulary, enter}
+use Rattle.book.specs.Books.{Model, with_vocabulary, enter}
 use Rattle.book.specs.Runs.{enters}
 use Rattle.book.specs.Law.{names}
 use Rattle.book.proofs.Effects.{named, effect, Effects}

@@ -1,5 +1,5 @@
 -- Every run keeps the law.
-use Rattle.std.proofs.Common.{ℕ, ◌-◌, List, [], ◌∷◌, map, Result, sym, refl, subst, subst₂, arith}
+use Rattle.std.proofs.Common.{ℕ, List, [], ◌∷◌, map, Result, sym, refl, subst, subst₂, arith}
 use Rattle.logic.proofs.Entering.{others_enter_well}
 use Rattle.calculus.specs.Theories.{Meaning, Sound}
 use Rattle.book.specs.Books.{Model, new_book, Outcome, enter, give, hold, lift, withdraw}

@@ -1,5 +1,5 @@
 -- What the effects say of entries, supports and predicates agrees with the book, and stays so.
-use Rattle.std.proofs.Common.{◌≡◌, ℕ, ◌-◌, ◌<◌, ◌≤◌, Bool, true, false, not, T, leb, ◌⊎◌, ◌↔◌, List, ◌∷◌, length, sym, refl, ap, ◌∙◌, subst, inl, inr, ⊎_elim, arith, leb→le}
+use Rattle.std.proofs.Common.{◌≡◌, ℕ, ◌<◌, ◌≤◌, Bool, true, false, not, T, leb, ◌⊎◌, ◌↔◌, List, ◌∷◌, length, sym, refl, ap, ◌∙◌, subst, inl, inr, ⊎_elim, arith, leb→le}
 use native.Mathlib.Decide.{ℕ_discrete}
 use lib.Dec.{nleb→lt}
 use Rattle.logic.specs.Formulas.{In, Vocabulary}

@@ -1,5 +1,5 @@
 -- From the law over effects to the law over calls and their answers.
-use Rattle.std.proofs.Common.{◌≡◌, ℕ, ◌-◌, T, ◌⊎◌, List, [], ◌∷◌, map, Ok, Err, sym, refl, ap, ◌∙◌, subst, inl, inr, ⊎_elim}
+use Rattle.std.proofs.Common.{◌≡◌, ℕ, T, ◌⊎◌, List, [], ◌∷◌, map, Ok, Err, sym, refl, ap, ◌∙◌, subst, inl, inr, ⊎_elim}
 use Rattle.logic.specs.Meanings.{Value, Structure, Interpretation, true_in}
 use Rattle.calculus.specs.declared.step.Step.{Step}
 use Rattle.calculus.specs.Derivations.{root}

@@ -1,5 +1,5 @@
 -- A derivation has one verdict.
-use Rattle.std.proofs.Common.{◌≡◌, ℕ, ◌≤◌, true, false, ◌↔◌, List, length, is_ok, IfOk, Ok, Err, Decides, Result, sym, refl, ap, ◌∙◌, inl, inr, arith}
+use Rattle.std.proofs.Common.{◌≡◌, ℕ, ◌≤◌, ◌↔◌, List, length, is_ok, IfOk, Ok, Err, Decides, Result, sym, refl, ap, ◌∙◌, inl, inr, arith}
 use Rattle.std.proofs.lemmas.Bool.{false≢true}
 use Rattle.logic.specs.Formulas.{Vocabulary}
 use Rattle.logic.specs.Meanings.{Sequent as Seq}

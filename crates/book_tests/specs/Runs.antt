@@ -1,5 +1,5 @@
 -- What a caller knows of a book.
-use Rattle.std.specs.Prelude.{ℕ, List, [], ◌∷◌, Result}
+use Rattle.std.specs.Prelude.{ℕ, [], ◌∷◌, Result}
 use Rattle.formulas.specs.declared.calls.Call.{Call}
 use Rattle.formulas.specs.declared.refusals.Refusal.{Refusal as VocabularyRefusal}
 use Rattle.calculus.specs.Theories.{Meaning}

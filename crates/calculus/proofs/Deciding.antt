@@ -1,5 +1,5 @@
 -- The test for a predicate decides it.
-use Rattle.std.proofs.Common.{◌≡◌, ℕ, true, T, length, Decides, ltb→lt, lt→ltb}
+use Rattle.std.proofs.Common.{ℕ, length, Decides, ltb→lt, lt→ltb}
 use Rattle.logic.specs.Formulas.{Vocabulary, node, Predicate, predicate_shape}
 use Rattle.logic.specs.Deciding.{is_predicate, knows_formula}
 use Rattle.logic.proofs.Tests.{and_both, and_left, and_right, is_true, is_so}

@@ -1,8 +1,8 @@
 -- In a derivation whose steps are right, every sequent is valid, for every sound theory.
-use Rattle.std.proofs.Common.{◌≡◌, ℕ, zero, suc, ◌+◌, ◌-◌, ◌<◌, ◌≤◌, List, [], ◌∷◌, length, refl, subst, not-suc-le-zero, arith}
+use Rattle.std.proofs.Common.{ℕ, zero, suc, ◌-◌, ◌<◌, List, not-suc-le-zero, arith}
 use Rattle.logic.specs.Formulas.{Vocabulary, WellFormed}
 use Rattle.std.specs.List.{AllByRecursion}
-use Rattle.logic.specs.Meanings.{Sequent as Seq, Valid}
+use Rattle.logic.specs.Meanings.{Valid}
 use Rattle.calculus.specs.Theories.{Meaning, Sound}
 use Rattle.calculus.specs.declared.step.Step.{Step}
 use Rattle.calculus.specs.declared.refusal.Fault.TheVariants.{LatePremise, NoInstance}

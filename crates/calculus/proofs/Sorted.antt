@@ -1,5 +1,5 @@
 -- Rising lists that are equal as sets are equal.
-use Rattle.std.proofs.Common.{◌≡◌, ℕ, zero, suc, ◌+◌, ◌<◌, ◌↔◌, List, [], ◌∷◌, length, get_or, sym, refl, subst, ap₂, inl, inr, ⊎_elim, add-one, arith}
+use Rattle.std.proofs.Common.{◌≡◌, ℕ, suc, ◌<◌, List, [], ◌∷◌, sym, refl, subst, ap₂, inl, inr, ⊎_elim, add-one, arith}
 use Rattle.logic.specs.Formulas.{In}
 use Rattle.calculus.specs.Rising.{Rising, SetsAreLists}
 

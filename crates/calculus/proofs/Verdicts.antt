@@ -1,5 +1,5 @@
 -- A derivation is right or has one first fault, and not both.
-use Rattle.std.proofs.Common.{◌≡◌, ℕ, ◌-◌, ◌<◌, ◌≤◌, true, false, ◌↔◌, List, [], ◌∷◌, length, get_or, is_ok, Ok, Err, Decides, Result, sym, refl, ap, ◌∙◌, subst, ap₂, inl, inr, ⊎_elim, arith}
+use Rattle.std.proofs.Common.{◌≡◌, ℕ, ◌-◌, ◌↔◌, List, [], ◌∷◌, get_or, is_ok, Ok, Err, Decides, Result, sym, refl, ap, ◌∙◌, subst, ap₂, inl, inr, ⊎_elim, arith}
 use Rattle.std.proofs.lemmas.Bool.{cases_lt, false≢true}
 use Rattle.logic.specs.Formulas.{Vocabulary}
 use Rattle.calculus.specs.declared.step.Step.{Step}
@@ -8,7 +8,7 @@ use Rattle.calculus.specs.declared.refusal.Fault.TheVariants.{Size, Range, NotAS
 use Rattle.calculus.specs.declared.refusal.Refusal.{Refusal}
 use Rattle.calculus.specs.Refusals.{number}
 use Rattle.calculus.specs.Theories.{Meaning}
-use Rattle.calculus.specs.Derivations.{at, Sized, Fails, RightBelow, RightDerivation, FirstFault}
+use Rattle.calculus.specs.Derivations.{at, Fails, RightBelow, RightDerivation, FirstFault}
 
 -- a fault is known by its number
 numbered : ℕ → Fault

@@ -1,11 +1,9 @@
 -- Two sound theories joined are sound, and two regular ones regular.
-use Rattle.std.specs.Prelude.{◌≡◌, ℕ, ◌≤◌, Bool, true, false, cond, ◌||◌, List, MatchBool, refl}
-use Rattle.std.proofs.Common.{sym, ◌∙◌}
+use Rattle.std.specs.Prelude.{◌≡◌, ◌≤◌, Bool, true, false, MatchBool}
+use Rattle.std.proofs.Common.{◌∙◌}
 use Rattle.std.proofs.lemmas.Bool.{cond_both, or_parts, cond-false, true≢false}
-use Rattle.logic.specs.Formulas.{Vocabulary, WellFormed}
 use Rattle.std.specs.List.{AllByRecursion}
-use Rattle.logic.specs.Meanings.{Sequent as Seq, Valid}
-use Rattle.calculus.specs.declared.step.Step.{Step}
+use Rattle.logic.specs.Meanings.{Valid}
 use Rattle.calculus.specs.Theories.{Meaning, Sound, Regular, joined}
 
 either : (b : Bool) (P Q R : Type 0) → (P → R) → (Q → R) → MatchBool b P Q → R

@@ -1,5 +1,5 @@
 -- Sequents in memory, as the logic has them.
-use Rattle.std.specs.Prelude.{ℕ, List, map, take}
+use Rattle.std.specs.Prelude.{List, map, take}
 use Rattle.logic.specs.Meanings.{Sequent as Seq}
 use Rattle.calculus.specs.declared.sequent.Sequent.{Sequent}
 

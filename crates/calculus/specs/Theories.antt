@@ -1,5 +1,5 @@
 -- What a theory is: the rules that it knows, how many premises each takes, and its instances.
-use Rattle.std.specs.Prelude.{◌≡◌, ℕ, ◌≤◌, Bool, true, false, cond, ◌||◌, List, [], ◌∷◌, MatchBool}
+use Rattle.std.specs.Prelude.{◌≡◌, ℕ, ◌≤◌, Bool, false, cond, ◌||◌, List, MatchBool}
 use Rattle.logic.specs.Formulas.{Vocabulary, WellFormed}
 use Rattle.std.specs.List.{AllByRecursion}
 use Rattle.logic.specs.Meanings.{Sequent as Seq, Valid}

@@ -1,13 +1,12 @@
 -- The rule for ⊤ is sound.
-use Rattle.std.specs.Prelude.{◌≡◌, ℕ, Bool, true, false, ◌&&◌, ◌||◌, T, List, length, Decides, ◌==◌, refl}
+use Rattle.std.specs.Prelude.{◌≡◌, ℕ, Bool, ◌&&◌, T, length, Decides, ◌==◌, refl}
 use Rattle.std.proofs.Common.{sym, ◌∙◌, ap, subst, arith}
-use Rattle.logic.specs.Formulas.{Vocabulary, node, truth, WellFormed}
+use Rattle.logic.specs.Formulas.{Vocabulary, node, truth}
 use Rattle.logic.specs.Meanings.{holds, refuted, true_in}
 use Rattle.logic.specs.Deciding.{knows_formula}
 use Rattle.logic.proofs.Tests.{and_left, and_right, is_true, or_left}
 use Rattle.logic.proofs.Coincidence.{reads}
 use Rattle.formulas.specs.declared.kinds.Kind.TheVariants.{True}
-use Rattle.formulas.specs.declared.records.Record.{Record}
 use Rattle.formulas.specs.Records.{entry, record_of, same_record, shape_of, has_record}
 use Rattle.formulas.proofs.Shapes.{forth, same_means}
 use Rattle.std.proofs.lemmas.Bool.{false≢true}

@@ -1,5 +1,5 @@
 -- The meaning of a theory with one rule, number 100: ⊤ follows from anything.
-use Rattle.std.specs.Prelude.{◌≡◌, ◌&&◌, T, List, [], length, ◌==◌}
+use Rattle.std.specs.Prelude.{◌&&◌, T, length, ◌==◌}
 use Rattle.formulas.specs.declared.kinds.Kind.TheVariants.{True}
 use Rattle.formulas.specs.Records.{entry, has_record}
 use Rattle.calculus.specs.Theories.{Meaning}

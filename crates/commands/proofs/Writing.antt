@@ -12,7 +12,7 @@ use Rattle.commands.specs.declared.command.CallVerb.TheVariants.{Carrier, Produc
 use Rattle.commands.specs.declared.command.HoldCall.TheVariants.{Preview, Lift, Withdraw}
 use Rattle.commands.specs.declared.command.Verb.{Verb}
 use Rattle.commands.specs.declared.command.Verb.TheVariants.{Book, Use, Call, Step, Check, Hold, HoldCall}
-use Rattle.commands.specs.Commands.{Request, asks, append, draw, request, request_words, understood, listed, of_verb, verb_named, list_word, list_text, conclude_word, conclude_text, text_of, word_of, spaced, bits, count, with_numbers, step_numbers, Within, ReadsBack, ListsReadBack}
+use Rattle.commands.specs.Commands.{Request, asks, append, draw, request, request_words, understood, listed, of_verb, verb_named, list_word, conclude_word, text_of, word_of, spaced, bits, count, with_numbers, step_numbers, Within, ReadsBack, ListsReadBack}
 use Rattle.commands.specs.Words.{Bytes, words, lengthen, read_digits, bounded, number, numbers, both, all_numbers}
 use Rattle.commands.proofs.Splitting.{chosen}
 

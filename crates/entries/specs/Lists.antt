@@ -1,16 +1,15 @@
 -- The entries of a book as a list, and what each call on them answers and makes of them.
-use Rattle.std.specs.Prelude.{ℕ, Bool, true, false, cond, not, ◌&&◌, List, [], ◌∷◌, ◌++◌, map, length, replicate, Ok, Err, count_by, Result, nat_lt, slice_index_or, slice_set}
+use Rattle.std.specs.Prelude.{ℕ, Bool, true, false, cond, ◌&&◌, List, [], ◌∷◌, ◌++◌, map, length, replicate, Ok, Err, count_by, Result, nat_lt, slice_index_or, slice_set}
 use Rattle.states.specs.declared.entry.Entry.{Entry}
 use Rattle.states.specs.declared.entry.EntryFacts.{EntryFacts}
 use Rattle.states.specs.declared.entry.Origin.TheVariants.{Given}
-use Rattle.states.specs.declared.entry.State.{State}
 use Rattle.states.specs.declared.entry.State.TheVariants.{Standing}
 use Rattle.states.specs.declared.entry.Event.{Event}
 use Rattle.states.specs.declared.refusal.Refusal.{Refusal}
 use Rattle.states.specs.declared.refusal.Refusal.TheVariants.{EntriesFull, UnknownEntry, NotAGivenRule, NotStanding, NotHeld}
 use Rattle.states.specs.Support.{with_state, falls_with, lose, facts}
 use Rattle.entries.specs.Scans.{first_place, or_zero}
-use Rattle.states.specs.States.{becomes, stands, is_held, is_standing, is_given}
+use Rattle.states.specs.States.{becomes, is_held, is_standing, is_given}
 
 -- what a call answers, and the entries afterwards
 pub record Change (A : Type 0) : Type 0 where

@@ -1,7 +1,7 @@
 -- Records and shapes: each is made of the other, and the operands of one are those of the other.
-use Rattle.std.proofs.Common.{◌≡◌, ℕ, ◌<◌, Bool, true, false, not, ◌&&◌, T, eqb, ◌↔◌, Option, unwrap_or, sym, refl, ap, ◌∙◌, subst, ap₂, inl, inr, eqb→eq}
+use Rattle.std.proofs.Common.{◌≡◌, ℕ, ◌<◌, Bool, true, false, not, ◌&&◌, T, eqb, ◌↔◌, unwrap_or, sym, refl, ap, ◌∙◌, subst, ap₂, inl, inr, eqb→eq}
 use lib.Dec.{eqb_refl}
-use Rattle.std.proofs.lemmas.Bool.{true≢false, false≢true, and_parts, and_from, eqb-true}
+use Rattle.std.proofs.lemmas.Bool.{false≢true, and_parts, and_from, eqb-true}
 use Rattle.logic.specs.Formulas.{In, and, or, implies, iff, forall, exists, Shape, variable, pair, falsity, truth, negation, join, bind, equal, member, operands, Vocabulary, node, predicate_shape, Falling}
 use Rattle.logic.proofs.Tests.{and_left, and_right, is_true, is_so}
 use Rattle.formulas.specs.declared.kinds.Kind.{Kind}

@@ -1,5 +1,5 @@
 -- The answers about formulas after one thing more is entered.
-use Rattle.std.proofs.Common.{◌≡◌, ℕ, ◌<◌, ◌≤◌, true, false, not, T, ltb, List, [], ◌∷◌, length, sym, refl, ap, ◌∙◌, ⊎_elim, append-nil, lt→ltb}
+use Rattle.std.proofs.Common.{◌≡◌, ℕ, ◌<◌, ◌≤◌, true, false, not, T, ltb, [], ◌∷◌, length, sym, refl, ap, ◌∙◌, ⊎_elim, append-nil, lt→ltb}
 use lib.Seq.{get_or-append_seam}
 use Rattle.std.proofs.lemmas.Bool.{cases_Bool, cases_lt}
 use Rattle.logic.specs.Formulas.{In, Shape, variable, pair, falsity, truth, negation, join, bind, equal, member, operands, through, Vocabulary, node, variable_type, ask, predicate_shape, Falling, WellFormed, Sort}

@@ -1,8 +1,8 @@
 -- Two lemmas on meanings: only free variables count; a formula with e for x means what the formula means with x at e's value.
-use Rattle.std.proofs.Common.{◌≡◌, ℕ, Bool, true, false, cond, not, T, eqb, List, sym, refl, ap, ◌∙◌, subst, ap₂, inl, inr, eqb→eq, T_not}
+use Rattle.std.proofs.Common.{◌≡◌, ℕ, Bool, true, false, cond, not, T, eqb, sym, refl, ap, ◌∙◌, subst, ap₂, inl, inr, eqb→eq, T_not}
 use mathlib.Core.Path.{fun_ext}
 use lib.Dec.{eqb_refl, not_T}
-use Rattle.logic.specs.Formulas.{In, Shape, variable, pair, falsity, truth, negation, join, bind, equal, member, operands, through, Vocabulary, node, variable_type, free, free_layer, IsReplaced, Substituted, SubstitutedLayer, Falling, WellFormed}
+use Rattle.logic.specs.Formulas.{In, Shape, variable, pair, falsity, truth, negation, join, bind, equal, member, operands, through, Vocabulary, node, variable_type, free, free_layer, IsReplaced, Substituted, SubstitutedLayer, Falling}
 use Rattle.logic.specs.Meanings.{Value, ordered_pair, truth_value, Structure, holds, same, connect, quantify, values, assign, meaning, meaning_layer, BoundIndependent, Substitution}
 use Rattle.logic.proofs.Tests.{or_left, or_right, and_both, and_left}
 use Rattle.logic.proofs.Falling.{asked, by_operands}

@@ -1,5 +1,4 @@
 -- Whether some H fits is decided by comparing sets, and a side condition on H needs asking only of the least H.
-use Rattle.logic.specs.declared.rule.Rule.{Rule}
 use Rattle.logic.specs.declared.rule.Rule.TheVariants.{Mon}
 use Rattle.std.proofs.Common.{◌≡◌, ℕ, Bool, true, false, cond, not, ◌||◌, T, eqb, ◌⊎◌, List, [], ◌∷◌, ◌++◌, sym, refl, ◌∙◌, subst, inl, inr, ⊎_elim, eqb→eq, T_not}
 use lib.Dec.{eqb_refl}

@@ -5,7 +5,6 @@ use lib.ListN.{get_or-eq_default}
 use Rattle.std.specs.Option.{option_map}
 use Rattle.std.proofs.lemmas.Bool.{cases_lt}
 use Rattle.logic.specs.Formulas.{In, Shape, variable, pair, falsity, truth, negation, join, bind, equal, member, operands, through, Sort, carrier, product, Vocabulary, node, sort, HasType, TypeLayer, Predicate, predicate_shape, Formed, Falling, WellFormed}
-use Rattle.logic.specs.Growing.{Grows, New}
 use Rattle.logic.specs.Deciding.{found, is_product, product_number, type_of, type_of_layer, is_predicate, is_expression, sorted, agreed, TypesDecided, FormedDecided}
 use Rattle.logic.proofs.Falling.{asked, by_operands}
 use Rattle.logic.proofs.Tests.{and_both, and_left, and_right}

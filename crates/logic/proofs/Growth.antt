@@ -1,5 +1,5 @@
 -- What is entered later changes nothing for what was there.
-use Rattle.std.proofs.Common.{◌≡◌, ℕ, ◌+◌, ◌<◌, List, ◌++◌, length, get_or, refl, ap, ◌∙◌, arith}
+use Rattle.std.proofs.Common.{◌≡◌, ℕ, ◌<◌, List, ◌++◌, length, get_or, refl, ap, ◌∙◌, arith}
 use lib.ListN.{get_or-append}
 use Rattle.logic.specs.Formulas.{Shape, variable, pair, falsity, truth, negation, join, bind, equal, member, through, carrier, Vocabulary, node, sort, variable_type, ask, Formed, WellFormed}
 use Rattle.logic.specs.Growing.{Grows}

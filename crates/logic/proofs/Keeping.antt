@@ -3,7 +3,7 @@ use Rattle.std.proofs.Common.{◌≡◌, ℕ, ◌<◌, not, T, ltb, ◌↔◌, L
 use Rattle.std.specs.List.{AllByRecursion}
 use Rattle.logic.specs.Formulas.{In, Shape, variable, pair, falsity, truth, negation, join, bind, equal, member, operands, through, Vocabulary, node, variable_type, element_type, free, free_layer, HasType, IsReplaced, Substituted, IsSubstitution, predicate_shape, WellFormed, weight, weight_layer, depth, depth_layer}
 use Rattle.logic.specs.Deciding.{type_of, is_expression}
-use Rattle.logic.specs.Growing.{Grows, Known, Keeps, GrowthKeeps}
+use Rattle.logic.specs.Growing.{Grows, Known, GrowthKeeps}
 use Rattle.logic.specs.Meanings.{Value, Structure, Interpretation, Sequent, true_in, refuted, Valid}
 use Rattle.logic.proofs.Tests.{and_both, and_right}
 use Rattle.logic.proofs.Falling.{by_operands}

@@ -1,7 +1,7 @@
 -- A vocabulary that is surely well formed is well formed.
 use Rattle.std.proofs.Common.{◌≡◌, ℕ, ◌<◌, ◌≤◌, Bool, ◌&&◌, T, eqb, ltb, leb, length, le→leb, eqb→eq, ltb→lt, lt→ltb, leb→le}
 use lib.Dec.{eqb_refl}
-use Rattle.logic.specs.Formulas.{Vocabulary, node, variable_type, element_type, Falling, WellFormed}
+use Rattle.logic.specs.Formulas.{node, variable_type, element_type, Falling}
 use Rattle.logic.specs.Deciding.{sorted, agreed, Sure, SureWellFormed}
 use Rattle.logic.proofs.Tests.{is_true, is_so}
 use Rattle.logic.proofs.Deciding.{Tested, formed_since, tested}

@@ -1,6 +1,6 @@
 -- Every rule is sound.
 use Rattle.logic.specs.declared.rule.Rule.{Rule}
-use Rattle.std.proofs.Common.{◌≡◌, ℕ, zero, suc, Bool, true, false, not, ◌||◌, T, ◌⊎◌, ◌↔◌, List, [], ◌∷◌, sym, refl, ap, subst, inl, inr, ⊎_elim, T_not}
+use Rattle.std.proofs.Common.{◌≡◌, ℕ, zero, suc, Bool, true, false, not, ◌||◌, T, ◌↔◌, List, [], ◌∷◌, sym, refl, ap, subst, inl, inr, ⊎_elim, T_not}
 use mathlib.Core.Bool.{decide, Bool-discrete}
 use native.Mathlib.Decide.{ℕ_discrete}
 use lib.Dec.{not_T}

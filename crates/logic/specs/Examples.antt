@@ -1,5 +1,5 @@
 -- A vocabulary reckoned by hand: one carrier; variables m, c, d; sets senior, reduce; and what is so of it.
-use Rattle.std.specs.Prelude.{◌≡◌, true, false, List, [], ◌∷◌}
+use Rattle.std.specs.Prelude.{◌≡◌, true, false, [], ◌∷◌}
 use Rattle.logic.specs.Formulas.{implies, forall, exists, variable, negation, join, bind, equal, member, carrier, Vocabulary, free, IsSubstitution, weight, depth}
 
 abbrev pub example : Vocabulary

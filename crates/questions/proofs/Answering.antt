@@ -1,5 +1,5 @@
 -- Freeness and substitution, from what is found at the operands.
-use Rattle.std.proofs.Common.{◌≡◌, ℕ, ◌<◌, Bool, true, false, cond, not, ◌&&◌, ◌||◌, T, eqb, ltb, ◌↔◌, length, Some, None, Option, sym, refl, ap, ◌∙◌, subst, ap₂, inl, inr, ⊎_elim, eqb→eq, ltb→lt, lt→ltb, T_not}
+use Rattle.std.proofs.Common.{◌≡◌, ℕ, Bool, true, false, cond, not, ◌&&◌, ◌||◌, T, eqb, ◌↔◌, Some, None, sym, refl, ap, ◌∙◌, subst, ap₂, inl, inr, ⊎_elim, eqb→eq, ltb→lt, lt→ltb, T_not}
 use lib.Dec.{eqb_refl}
 use Rattle.logic.specs.Formulas.{and, or, implies, iff, forall, exists, Shape, variable, pair, falsity, truth, negation, join, bind, equal, member, through, Vocabulary, node, free, free_layer, Substituted, SubstitutedLayer, IsReplaced, variable_type, Falling, WellFormed, IsSubstitution}
 use Rattle.logic.specs.Meanings.{Valued}

@@ -4,7 +4,7 @@ use Rattle.logic.specs.Examples as logic
 use Rattle.logic.specs.Formulas.{Vocabulary}
 use Rattle.logic.specs.Growing.{empty_vocabulary}
 use Rattle.formulas.specs.declared.calls.Call.{Call}
-use Rattle.formulas.specs.declared.calls.Call.TheVariants.{NewCarrier, NewProduct, NewVariable, NewSetName, EnterFormula}
+use Rattle.formulas.specs.declared.calls.Call.TheVariants.{NewCarrier, NewVariable, NewSetName, EnterFormula}
 use Rattle.vocabulary.specs.Calls.{called}
 
 -- the vocabulary after calls

@@ -2,7 +2,6 @@
 use Rattle.std.specs.Prelude.{◌++◌, codes, decimal}
 use Rattle.formulas.specs.declared.refusals.Layer.{Layer}
 use Rattle.formulas.specs.declared.refusals.Layer.TheVariants as layers
-use Rattle.formulas.specs.declared.refusals.Notice.{Notice}
 use Rattle.states.specs.declared.entry.Origin.{Origin}
 use Rattle.states.specs.declared.entry.Origin.TheVariants as origins
 use Rattle.states.specs.declared.entry.State.{State}

@@ -1,7 +1,7 @@
 -- The answers of the code decide whether a step is an instance of a rule.
 use Rattle.std.specs.Prelude.{◌≡◌, ℕ, ◌<◌, ◌≤◌, Bool, true, false, not, ◌&&◌, T, List, [], ◌∷◌, length, Decides, ◌==◌, ◌≢◌, slice_index_or, refl}
 use Rattle.std.proofs.Common.{sym, ◌∙◌, ap, subst, subst₂, inl, inr, ⊎_elim, arith}
-use Rattle.std.proofs.lemmas.Bool.{and_left, and_right, and_cases, false≢true, true≢false, cases_Bool}
+use Rattle.std.proofs.lemmas.Bool.{and_cases, false≢true, true≢false, cases_Bool}
 use Rattle.std.proofs.lemmas.Bool.Decides.{Decides-and, Decides-at, Decides-eqb, Decides-like}
 use Rattle.std.proofs.lemmas.List.{get_or-map, get_or_past, length-map}
 use Rattle.logic.specs.Formulas.{In, Vocabulary, WellFormed}
@@ -20,7 +20,7 @@ use Rattle.matching.specs.declared.line.Line.{Line}
 use Rattle.matching.specs.Reading.{is}
 use Rattle.matching.specs.Sets.{every, covered}
 use Rattle.rules.specs.Tables.{arity, by_line}
-use Rattle.matching.specs.Lines.{line, goal_at, fresh_absent, line_fits, Substitutions}
+use Rattle.matching.specs.Lines.{line, goal_at, line_fits, Substitutions}
 use Rattle.rules.specs.Fitting.{covered_is, every_at}
 use Rattle.rules.specs.Judging.{by_line_decides}
 use Rattle.matching.proofs.Records.{falsity_by_test, test_by_falsity}

@@ -1,5 +1,5 @@
 -- What a line leaves as it was.
-use Rattle.std.proofs.Common.{◌≡◌, ℕ, zero, suc, ◌+◌, ◌<◌, Bool, true, false, cond, List, [], ◌∷◌, ◌++◌, length, set, Some, None, Ok, Err, Option, Result, sym, refl, ap, ◌∙◌, subst, arith, length-append, length-set}
+use Rattle.std.proofs.Common.{◌≡◌, ℕ, zero, suc, ◌<◌, Bool, true, false, cond, List, [], ◌∷◌, ◌++◌, length, set, Some, None, Ok, Err, Option, Result, sym, refl, ap, ◌∙◌, subst, arith, length-append, length-set}
 use Rattle.std.specs.Option.{option_map}
 use Rattle.std.specs.List.{slice_get}
 use Rattle.logic.specs.Formulas.{WellFormed}
@@ -28,7 +28,7 @@ use Rattle.replies.specs.declared.reply.Reply.{Reply}
 use Rattle.replies.specs.Books.{after}
 use Rattle.commands.specs.Commands.{Request, silent, not_understood, asks, append, draw, request, without_ending}
 use Rattle.replies.specs.Hands.{undergo, lifted, withdrawn}
-use Rattle.script.specs.Sessions.{Session, start, number, chosen, called, held_by, hold_called, done, current_book, with_book, Concludes, Concluded, Did, Follows, After, OthersStay, NumbersStay, AlwaysCurrent, AlwaysRun, AlwaysWellFormed}
+use Rattle.script.specs.Sessions.{Session, start, number, chosen, called, held_by, hold_called, done, current_book, with_book, Concludes, Did, Follows, After, OthersStay, NumbersStay, AlwaysCurrent, AlwaysRun, AlwaysWellFormed}
 use Rattle.commands.specs.Words.{Bytes}
 
 -- the book b' comes of one call on the book b, or is b

@@ -1,5 +1,5 @@
 -- A call is refused and changes nothing, or is granted and enters what was asked for.
-use Rattle.std.proofs.Common.{◌≡◌, ℕ, suc, ◌<◌, Bool, true, false, cond, ◌&&◌, T, ltb, ◌⊎◌, List, [], ◌∷◌, ◌++◌, length, get_or, is_some, Some, None, Ok, Err, Option, Result, unwrap_or, sym, refl, ap, ◌∙◌, subst, inl, inr, append-nil, arith}
+use Rattle.std.proofs.Common.{◌≡◌, ℕ, suc, ◌<◌, Bool, true, false, cond, ◌&&◌, T, ltb, ◌⊎◌, List, [], ◌∷◌, ◌++◌, length, get_or, is_some, Some, None, Option, unwrap_or, sym, refl, ap, ◌∙◌, subst, inl, inr, append-nil, arith}
 use Rattle.std.specs.Option.{option_map}
 use Rattle.std.proofs.lemmas.List.{get_or_push, length_push}
 use Rattle.std.proofs.lemmas.Bool.{ltb-true, and_parts}
@@ -17,7 +17,7 @@ use Rattle.formulas.specs.declared.records.Record.{Record}
 use Rattle.formulas.specs.declared.refusals.Refusal.{Refusal}
 use Rattle.formulas.specs.declared.refusals.Refusal.TheVariants.{TypesFull, UnknownType, VariablesFull, SetNamesFull, UnknownKind, FormulasFull}
 use Rattle.formulas.specs.Kinds.{kind_numbered}
-use Rattle.formulas.specs.Records.{entry, shape, shape_of, record_of, same_record}
+use Rattle.formulas.specs.Records.{entry, shape_of, record_of, same_record}
 use Rattle.formulas.proofs.Shapes.{forth, same_means}
 use Rattle.vocabulary.specs.Calls.{Outcome, granted, refused, knows_type, add_type, product_or, objection, formula_number, settle, enter_unless, enter_kind, called, Means, EnteringLaw}
 use Rattle.vocabulary.proofs.Entered.{well_entered}

@@ -16,11 +16,10 @@ use Rattle.formulas.specs.declared.kinds.Role.{Role}
 use Rattle.formulas.specs.declared.kinds.Role.TheVariants.{Nothing, AVariable, Expression, Predicate, ASetName}
 use Rattle.formulas.specs.declared.records.Record.{Record}
 use Rattle.vocabulary.specs.declared.facts.Facts.{Facts}
-use Rattle.formulas.specs.declared.refusals.Refusal.{Refusal}
 use Rattle.formulas.specs.declared.refusals.Refusal.TheVariants.{WrongOperand, TypesDisagree, TooLarge, FormulasFull}
 use Rattle.formulas.specs.Kinds.{kind_numbered, first_role, second_role, is_formula}
 use Rattle.formulas.specs.Records.{shape, shape_of, record_of, entry, blank, plain, same_record, record_at}
-use Rattle.vocabulary.specs.Calls.{Outcome, refused, granted, fits, operands_fit, objection, small_enough, weight_with, depth_with, formula_number, settle, enter_unless, enter_kind, enter_formula}
+use Rattle.vocabulary.specs.Calls.{refused, granted, fits, operands_fit, objection, small_enough, weight_with, depth_with, formula_number, settle, enter_unless, enter_kind, enter_formula}
 use Rattle.vocabulary.specs.Stored.{no_facts, facts_at, Plain, Typed, Weighed, Measured, Stored}
 use Rattle.formulas.proofs.Shapes.{back, same_itself}
 

@@ -12,7 +12,7 @@ use Rattle.formulas.specs.declared.records.TypeDef.{TypeDef}
 use Rattle.formulas.specs.declared.records.Record.{Record}
 use Rattle.vocabulary.specs.declared.facts.Facts.{Facts}
 use Rattle.formulas.specs.declared.refusals.Refusal.TheVariants.{TypesFull}
-use Rattle.vocabulary.specs.Calls.{Outcome, granted, refused, add_type}
+use Rattle.vocabulary.specs.Calls.{granted, refused, add_type}
 use Rattle.vocabulary.specs.Lists.{view}
 use Rattle.vocabulary.specs.Stored.{Weighed, Measured, Stored}
 

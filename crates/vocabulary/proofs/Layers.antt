@@ -1,6 +1,6 @@
 -- One layer over a record, as the code reckons it, is the logic's layer over the shape.
-use Rattle.std.proofs.Common.{◌≡◌, ℕ, ◌+◌, max, Option, refl, arith}
-use Rattle.logic.specs.Formulas.{and, or, implies, iff, forall, exists, Shape, variable, pair, falsity, truth, negation, join, bind, equal, member, through, Vocabulary, weight_layer, depth_layer}
+use Rattle.std.proofs.Common.{◌≡◌, ℕ, ◌+◌, max, refl, arith}
+use Rattle.logic.specs.Formulas.{through, Vocabulary, weight_layer, depth_layer}
 use Rattle.logic.specs.Deciding.{type_of_layer, type_of, agreed}
 use Rattle.formulas.specs.declared.kinds.Kind.{Kind}
 use Rattle.formulas.specs.declared.kinds.Kind.TheVariants.{Variable, Pair, False, True, Not, And, Or, Implies, Iff, ForAll, Exists, Equal, Member}

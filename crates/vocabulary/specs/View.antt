@@ -1,8 +1,6 @@
 -- What is kept in memory, as the vocabulary that the logic speaks of.
-use Rattle.std.specs.Prelude.{List, vec_items}
+use Rattle.std.specs.Prelude.{vec_items}
 use Rattle.logic.specs.Formulas as logic
-use Rattle.formulas.specs.declared.records.TypeDef.{TypeDef}
-use Rattle.formulas.specs.declared.records.Record.{Record}
 use Rattle.vocabulary.specs.declared.store.Vocabulary.{Vocabulary}
 use Rattle.vocabulary.specs.Lists.{view}
 

@@ -1,10 +1,10 @@
-use Rattle.std.proofs.Common.{ℕ, ◌+◌, ◌-◌, ◌<◌, length, sym, refl, subst, inl, inr, arith, below_more}
+use Rattle.std.proofs.Common.{◌-◌, length, sym, refl, subst, inl, inr, arith, below_more}
 use Rattle.std.proofs.lemmas.Bool.{false≢true}
-use Rattle.logic.specs.Meanings.{Sequent as Seq, Valid}
+use Rattle.logic.specs.Meanings.{Valid}
 use Rattle.vocabulary.specs.View.{model}
 use Rattle.vocabulary.proofs.Views.{well_formed}
 use Rattle.calculus.specs.declared.refusal.Fault.TheVariants.{Size, Range, NotASequent}
-use Rattle.calculus.specs.Derivations.{RightBelow, RightDerivation, Sized}
+use Rattle.calculus.specs.Derivations.{RightBelow, Sized}
 use Rattle.calculus.proofs.Derived.{root_valid}
 use Rattle.calculus.proofs.Verdicts.{refused, accepted}
 use Rattle.calculus.proofs.checker.check.Goals as goal

@@ -1,7 +1,7 @@
-use Rattle.std.proofs.Common.{true, false, sym, ap, ◌∙◌}
+use Rattle.std.proofs.Common.{true, sym, ap, ◌∙◌}
 use Rattle.commands.specs.Commands.{line_of}
 use Rattle.commands.specs.Words.{words, all_numbers}
-use Rattle.commands.proofs.Requests.{append_line, draw_line}
+use Rattle.commands.proofs.Requests.{append_line}
 use Rattle.commands.proofs.Splitting.{chosen}
 use Rattle.commands.proofs.command.read_words.Goals as goal
 

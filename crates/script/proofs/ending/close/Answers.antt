@@ -1,4 +1,4 @@
-use Rattle.std.proofs.Common.{◌≡◌, ◌<◌, length, get_or, Ok, Err, vec_items, sym, refl, ◌∙◌, rules}
+use Rattle.std.proofs.Common.{◌<◌, length, Ok, Err, vec_items, sym, refl, ◌∙◌, rules}
 use Rattle.book.specs.Books.{lift}
 use Rattle.book.specs.View.{model}
 use Rattle.script.specs.Closing.{modelled}

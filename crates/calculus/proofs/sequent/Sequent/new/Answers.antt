@@ -1,7 +1,6 @@
 use Rattle.std.proofs.Common.{◌≡◌, ℕ, ◌+◌, ◌<◌, ◌≤◌, List, [], ◌∷◌, ◌++◌, length, get_or, take, set, sym, ap, ◌∙◌, subst, arith, length-set}
 use Rattle.std.proofs.lemmas.List.{take_more, take_more_set, take_all}
 use Rattle.calculus.specs.Rising.{Rising}
-use Rattle.logic.specs.Meanings.{Sequent as Seq}
 use Rattle.calculus.proofs.sequent.Sequent.new.Goals as goal
 
 -- one element copied more

@@ -1,4 +1,4 @@
-use Rattle.std.proofs.Common.{◌≡◌, ℕ, Bool, ◌&&◌, eqb, sym, ap, ◌∙◌, ap₂}
+use Rattle.std.proofs.Common.{ℕ, ◌&&◌, eqb, sym, ap, ◌∙◌, ap₂}
 use lib.ListN.{length-map}
 use Rattle.formulas.specs.declared.kinds.Kind.TheVariants.{True}
 use Rattle.formulas.specs.Records.{entry, has_record}

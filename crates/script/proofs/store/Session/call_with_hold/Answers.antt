@@ -1,4 +1,4 @@
-use Rattle.std.proofs.Common.{◌≡◌, ◌<◌, ◌≤◌, length, get_or, vec_items, vec_len, sym, refl, ap, ◌∙◌, subst, append-nil, arith, rules}
+use Rattle.std.proofs.Common.{◌≡◌, ◌<◌, ◌≤◌, length, get_or, vec_items, vec_len, sym, refl, ap, ◌∙◌, subst, rules}
 use Rattle.book.specs.View as book
 use Rattle.script.specs.Sessions.{model, with_books, hold_call_reply_by, hold_called}
 use Rattle.std.specs.List.{slice_get}

@@ -1,4 +1,4 @@
-use Rattle.std.proofs.Common.{◌≡◌, ◌<◌, ◌≤◌, length, get_or, vec_items, refl, rules}
+use Rattle.std.proofs.Common.{◌≡◌, ◌<◌, ◌≤◌, length, get_or, vec_items, rules}
 use Rattle.book.specs.View as books
 use Rattle.script.specs.Sessions.{model}
 use Rattle.script.proofs.Trying.{tried_here, tried_nowhere, begun_anew, kept}

@@ -1,6 +1,4 @@
-use Rattle.std.proofs.Common.{◌≡◌, ◌<◌, ◌≤◌, true, length, get_or, set, vec_items, vec_len, sym, refl, ap, ◌∙◌, subst, arith, rules}
-use Rattle.replies.specs.declared.hand.InHand.{InHand}
-use Rattle.replies.specs.declared.hand.InHand.TheVariants.{Ended}
+use Rattle.std.proofs.Common.{◌≡◌, ◌<◌, ◌≤◌, true, length, get_or, set, vec_items, vec_len, sym, ap, ◌∙◌, subst, rules}
 use Rattle.script.specs.Sessions.{model, closed_reply_of, closed_of}
 use Rattle.script.specs.Closing.{GrantedBy, all_granted}
 use Rattle.script.proofs.Granting.{set_granted, at_granted}

@@ -1,4 +1,4 @@
-use Rattle.std.proofs.Common.{◌≡◌, ◌<◌, ◌≤◌, length, get_or, vec_items, vec_len, sym, refl, ap, ◌∙◌, subst, append-nil, arith, rules}
+use Rattle.std.proofs.Common.{◌≡◌, ◌<◌, ◌≤◌, length, get_or, vec_items, sym, refl, subst, rules}
 use Rattle.book.specs.View as book
 use Rattle.replies.specs.declared.reply.Reply.TheVariants.{NoSuchBook}
 use Rattle.script.specs.Sessions.{model, Concludes}

@@ -1,4 +1,4 @@
-use Rattle.std.proofs.Common.{◌≡◌, ◌<◌, ◌≤◌, [], ◌∷◌, ◌++◌, length, get_or, Ok, Err, vec_items, vec_len, sym, refl, ap, ◌∙◌, subst, append-nil, arith, rules}
+use Rattle.std.proofs.Common.{◌≡◌, ◌<◌, ◌≤◌, [], ◌∷◌, ◌++◌, length, get_or, Ok, Err, vec_items, vec_len, sym, refl, ap, ◌∙◌, append-nil, arith, rules}
 use Rattle.book.specs.Books as definitions
 use Rattle.book.specs.View as book
 use Rattle.replies.specs.declared.reply.Reply.TheVariants.{Refused}

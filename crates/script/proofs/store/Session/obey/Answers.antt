@@ -1,4 +1,4 @@
-use Rattle.std.proofs.Common.{◌≡◌, ℕ, List, Some, None, vec_items, sym, refl, ap, ◌∙◌, subst}
+use Rattle.std.proofs.Common.{Some, None, vec_items, sym, refl, ap, ◌∙◌, subst}
 use Rattle.replies.specs.declared.reply.Reply.TheVariants.{NotUnderstood}
 use Rattle.commands.specs.Commands.{request}
 use Rattle.script.specs.Sessions.{model, Concludes, appended, misread, current_book}
