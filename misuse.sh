@@ -1,7 +1,6 @@
 #!/bin/sh
-# Two misuses of a hold are refused when a program is compiled: letting one go, and ending one twice.
-# The small program below compiles as it is, and with each edit it has that error and no other.
-# Nothing is proved here: the kit's front end alone reads the program and the crates under it, as sources, in a folder of their own.
+# Two misuses of a hold are refused when a program is checked: letting one go, and ending one twice.
+# The small program below is proved as it is, and with each edit it has that error and no other.
 set -eu
 here=$(cd "$(dirname "$0")" && pwd)
 work=$(mktemp -d)
@@ -15,22 +14,17 @@ under() {
     done | awk '!seen[$0]++'
 }
 
-# A repository of the program and the sources that it stands on.
+# A repository of the program and the crates that it stands on.
 mkdir -p "$work/crates/holder/src"
 for name in $(under book) book; do
-    mkdir "$work/crates/$name"
-    for part in src specs; do
-        if [ -d "$here/crates/$name/$part" ]; then
-            cp -R "$here/crates/$name/$part" "$work/crates/$name/"
-        fi
-    done
+    cp -R "$here/crates/$name" "$work/crates/$name"
     grep "^$name:" "$here/crates.txt" >>"$work/crates.txt"
 done
 echo 'holder: book' >>"$work/crates.txt"
 
 # The program, with what it does to the hold.
 program() {
-    cat >"$work/crates/holder/src/main.rt" <<P
+    cat >"$work/crates/holder/src/lib.rt" <<P
 #![tactic(auto)]
 
 use book::Book;
@@ -49,22 +43,20 @@ fn end(r: Result<(), Refused>) {
         hold.discard();
     }
 }
-
-fn main() {}
 P
 }
 
-# The errors of the program, each once, or 'compiled'.
-errors() {
-    if out=$(cd "$work/crates/holder" && rt try 2>&1 </dev/null); then
-        echo compiled
+# The errors of a check, each once, or 'proved'.
+check() {
+    if out=$(cd "$work/crates/holder" && rt check 2>&1 </dev/null); then
+        echo proved
     else
         printf '%s\n' "$out" | grep -o 'error\[[a-z0-9-]*\]' | sort -u | tr '\n' ' ' | sed 's/ $//'
     fi
 }
 
 expect() {
-    got=$(errors)
+    got=$(check)
     if [ "$got" != "$2" ]; then
         printf 'misuse: %s: expected %s, got %s\n' "$1" "$2" "${got:-something else}"
         exit 1
@@ -73,7 +65,7 @@ expect() {
 }
 
 program '    end(b.lift(h));'
-expect 'a hold that is lifted' compiled
+expect 'a hold that is lifted' proved
 program '    let _kept = &h;'
 expect 'a hold that is let go' 'error[linear-value-let-go]'
 program '    end(b.lift(h));

@@ -85,7 +85,7 @@ sort_of (Product s t) = product s t
 abbrev pub has_record : Vocabulary → ℕ → Record → Bool
 has_record v n r = knows_formula v n && same_record r (record_of (node v n))
 
--- a shape is that of its record; a record whose unused operands are 0 is that of its shape; and same-record compares the whole
+-- a shape is that of its record; a record whose unused operands are 0 is that of its shape; and same_record compares the whole
 abbrev pub RecordsAreShapes : Type 0
 RecordsAreShapes = ((s : Shape ℕ) → shape_of (record_of s) ≡ s) × ((r : Record) → plain r ≡ true → record_of (shape_of r) ≡ r) ×
     ((r s : Record) → T (same_record r s) ↔ (s ≡ r))
