@@ -6,9 +6,10 @@ here=$(cd "$(dirname "$0")" && pwd)
 work=$(mktemp -d)
 trap 'rm -rf "$work"' EXIT
 
-# The crates under a crate, each after those that it depends on.
+# The crates under a crate, each after those that it depends on; a library of the kit is no crate here.
 under() {
     for d in $(sed -n "s/^$1: *//p" "$here/crates.txt"); do
+        [ -d "$here/crates/$d" ] || continue
         under "$d"
         printf '%s\n' "$d"
     done | awk '!seen[$0]++'

@@ -1,8 +1,12 @@
 -- Conclude keeps what agrees between the effects and the book.
-use Rattle.std.proofs.Common.{◌≡◌, ℕ, zero, suc, ◌+◌, ◌-◌, ◌<◌, ◌≤◌, Bool, true, false, cond, not, ◌&&◌, ◌||◌, T, eqb, ltb, leb, ◌⊎◌, List, [], ◌∷◌, ◌++◌, map, length, get_or, set, Some, None, Ok, Err, Option, Result, sym, refl, ap, ◌∙◌, subst, inl, inr, ⊎_elim, not-suc-le-zero, arith, eqb→eq, ltb→lt, T_not}
-use Rattle.std.specs.List.{range_with_len}
+use Rattle.std.proofs.Common.{◌≡◌, ℕ, ◌-◌, ◌<◌, ◌≤◌, Bool, true, false, not, ◌&&◌, ◌||◌, T, eqb, ltb, leb, ◌⊎◌, List, [], ◌∷◌, ◌++◌, map, length, get_or, set, Some, None, Ok, Err, Option, Result, sym, refl, ap, ◌∙◌, subst, inl, inr, ⊎_elim, arith, eqb→eq, ltb→lt, T_not, All, position, zero-add}
+use Rattle.std.proofs.lemmas.Bool.{cases_lt}
+use Rattle.std.specs.List.{range_with_len, enumerate_from}
+use Rattle.std.proofs.lemmas.List.Elements.{All-head, All-tail, All-from_get_or}
+use Rattle.std.proofs.lemmas.List.Folds.{list_any_at}
+use Rattle.std.proofs.Math.Facts.{T_not-not}
 use Rattle.std.proofs.lemmas.List.{get_or_past}
-use Rattle.std.proofs.lemmas.List.FromFn.{get_or-map-range_with_len, length-map-range_with_len}
+use Rattle.std.proofs.lemmas.List.FromFn.{get_or-map-range_with_len, length-map-range_with_len, length-enumerate_from, get_or-enumerate_from}
 use Rattle.logic.specs.Formulas.{In}
 use Rattle.logic.specs.Meanings.{Value, Structure, Interpretation, true_in, refuted}
 use Rattle.logic.specs.Meanings.{Sequent as Seq}
@@ -17,21 +21,24 @@ use Rattle.states.specs.declared.entry.Origin.TheVariants.{Given, Concluded}
 use Rattle.states.specs.declared.entry.State.{State}
 use Rattle.states.specs.declared.refusal.Refusal.{Refusal}
 use Rattle.states.specs.declared.refusal.Refusal.TheVariants.{UnknownCitation, CitationNotStanding, CitationHeld}
-use Rattle.states.specs.States.{stands, is_held, is_given}
-use Rattle.entries.specs.Scans.{first_place, mem, subset}
+use Rattle.states.specs.States.{stands, is_held}
+use Rattle.entries.specs.Scans.{mem, subset}
 use Rattle.entries.specs.Lists as entries
 use Rattle.states.specs.Support.{in_support}
 use Rattle.entries.specs.Lists.{Change, no_entry, at}
 use Rattle.entries.specs.Concluding as concluding
-use Rattle.entries.specs.Concluding.{disorder, does_not_stand, one_held, support_held, predicate_of, same_set, joined, row, conclusion, unless}
+use Rattle.entries.specs.Concluding.{disorder, does_not_stand, support_held, predicate_of, same_set, joined, row, conclusion, unless}
+use Rattle.entries.proofs.Citing.{all_below}
+use Rattle.entries.proofs.Placing.{position-None}
 use Rattle.book.specs.Books.{Model, with_entries}
 use Rattle.book.specs.Concluding.{Judges, conclude}
 use Rattle.book.specs.Runs.{concludes}
 use Rattle.book.proofs.Effects.{concluded_by, effect, Effects, IsWithdrawn, IsHeld}
 use Rattle.book.proofs.Tests.{and_both, and_left, and_right, or_left, or_right}
-use Rattle.book.proofs.Static.{split, no_growth, Fresh, static_step}
+use Rattle.book.proofs.Changes.{TIs}
+use Rattle.book.proofs.Static.{no_growth, Fresh, static_step}
 use Rattle.book.proofs.EntryStates.{at_new, longer, kept_append, states_append}
-use Rattle.book.proofs.Reading.{Inv, unwithdrawn, none_is_not}
+use Rattle.book.proofs.Reading.{Inv, unwithdrawn}
 use Rattle.book.proofs.Steps.{either_way, idle, new_place}
 
 -- a row of marks
@@ -40,7 +47,7 @@ unfolding row
 in_row set r t = ⊎_elim
     (λ (l : r < 512). (l, subst T (get_or-map-range_with_len set 0 512 r r false l (omega arith)) t))
     (λ (l : 512 ≤ r). absurd (subst T (get_or_past (map set (range_with_len 0 512)) r false (subst (λ (n : ℕ). n ≤ r) (sym (length-map-range_with_len set 0 512)) l)) t))
-    (split r 512)
+    (cases_lt r 512)
 
 to_row : (set : ℕ → Bool) (r : ℕ) → r < 512 → T (set r) → T (get_or (row set) r false)
 unfolding row
@@ -62,39 +69,20 @@ joined_has es (k ∷ cs) r c (inl e) t = or_left (in_support r (at es k)) (joine
 joined_has es (k ∷ cs) r c (inr i) t = or_right (in_support r (at es k)) (joined es cs r) (joined_has es cs r c i t)
 
 -- the checks over the citations
-some_not_none : (n : ℕ) → Some n ≡ None → ⊥
-some_not_none n e = none_is_not n (sym e)
+of_all : (P : ℕ → Type 0) (ns : List ℕ) → All P ns → (n : ℕ) → In n ns → P n
+of_all P [] a n i = absurd i
+of_all P (k ∷ ns) a n (inl e) = subst P (sym e) (All-head P k ns a)
+of_all P (k ∷ ns) a n (inr i) = of_all P ns (All-tail P k ns a) n i
 
-ordered : (n place low : ℕ) (cites : List ℕ) → disorder n place low cites ≡ None → (c : ℕ) → In c cites → c < n
-ordered n place low [] e c i = absurd i
-ordered n place low (k ∷ cs) e c i = go (ltb k n && leb low k) (λ t. ltb→lt _ _ (and_left (ltb k n) (leb low k) t)) (ordered n (place + 1) (k + 1) cs) e i
-  where
-    go : (b : Bool) → (T b → k < n) → (disorder n (place + 1) (k + 1) cs ≡ None → (c : ℕ) → In c cs → c < n) →
-        cond b (disorder n (place + 1) (k + 1) cs) (Some place) ≡ None → In c (k ∷ cs) → c < n
-    go true t f e (inl s) = rw s (t tt)
-    go true t f e (inr i) = f e c i
-    go false t f e i = absurd (some_not_none place e)
+passing : (test : ℕ → Bool) (cites : List ℕ) → position test cites ≡ None → (c : ℕ) → In c cites → T (not (test c))
+passing test cites e = of_all (λ c. T (not (test c))) cites
+    (All-from_get_or (λ c. T (not (test c))) cites 0 (λ k l. subst (λ b. T (not b)) (sym (position-None test cites k 0 e l)) tt))
 
-passing : (test : ℕ → Bool) (place : ℕ) (cites : List ℕ) → first_place test place cites ≡ None → (c : ℕ) → In c cites → T (not (test c))
-passing test place [] e c i = absurd i
-passing test place (k ∷ cs) e c i = go (test k) (λ t. t) (passing test (place + 1) cs) e i
-  where
-    go : (b : Bool) → (T (not b) → T (not (test k))) → (first_place test (place + 1) cs ≡ None → (c : ℕ) → In c cs → T (not (test c))) →
-        cond b (Some place) (first_place test (place + 1) cs) ≡ None → In c (k ∷ cs) → T (not (test c))
-    go true t f e i = absurd (some_not_none place e)
-    go false t f e (inl s) = subst (λ (n : ℕ). T (not (test n))) (sym s) (t tt)
-    go false t f e (inr i) = f e c i
-
-not_not : (b : Bool) → T (not (not b)) → T b
-not_not true t = tt
-not_not false t = absurd t
-
-holds_found : (set : ℕ → Bool) (k : ℕ) (xs : List Entry) (i j : ℕ) → j ≡ k + i → i < length xs → T (set j) → T (is_held (get_or xs i no_entry).state) → T (one_held set k xs)
-holds_found set k [] i j e l t h = absurd (not-suc-le-zero l)
-holds_found set k (x ∷ xs) zero j e l t h =
-    let same : j ≡ k = omega arith in or_left (set k && is_held x.state) (one_held set (k + 1) xs) (and_both (set k) (is_held x.state) (subst (λ (n : ℕ). T (set n)) same t) h)
-holds_found set k (x ∷ xs) (suc i) j e l t h =
-    or_right (set k && is_held x.state) (one_held set (k + 1) xs) (holds_found set (k + 1) xs i j (omega arith) (omega arith) t h)
+holds_found : (es : List Entry) (c r : ℕ) → r < length es → T (in_support r (at es c)) → T (is_held (at es r).state) → T (support_held es c)
+holds_found es c r l t h =
+    let test : ℕ × Entry → Bool = λ (k, x). in_support k (at es c) && is_held x.state in
+    let here : test (r, at es r) ≡ true = TIs _ (and_both (in_support r (at es c)) (is_held (at es r).state) t h) in
+    subst T (sym (list_any_at test (enumerate_from 0 es) r (0, no_entry) (simp length-enumerate_from l) (rw (get_or-enumerate_from 0 es r (0, no_entry) l, zero-add) here))) tt
 
 from_map : (f : ℕ → ℕ) (cites : List ℕ) (n : ℕ) → In n (map f cites) → (c : ℕ) × In c cites × (n ≡ f c)
 from_map f [] n i = absurd i
@@ -103,7 +91,7 @@ from_map f (c ∷ cs) n (inr i) = let (k, j, e) = from_map f cs n i in (k, inr j
 
 among : (n : ℕ) (ms : List ℕ) → T (mem n ms) → In n ms
 among n [] t = absurd t
-among n (m ∷ ms) t = go (eqb n m) (eqb→eq n m) (among n ms) t
+among n (m ∷ ms) t = go (eqb m n) (λ u. sym (eqb→eq m n u)) (among n ms) t
   where
     go : (b : Bool) → (T b → n ≡ m) → (T (mem n ms) → In n ms) → T (b || mem n ms) → (n ≡ m) ⊎ In n ms
     go true e f t = inl (e tt)
@@ -146,14 +134,14 @@ module _ (ds : Effects) (b : Model) (inv : Inv ds b) (cites : List ℕ) (goal : 
 
   untainted : (r : ℕ) → IsHeld ds r → T (in_support r x) → ⊥
   untainted r h t = let es = b.entries in let (c, i, u) = from r t in let (l, s) = inv.states.held_in r h in
-      T_not _ (free_all c i) (holds_found (λ k. in_support k (at es c)) 0 es r r (omega arith) l u (subst (λ (z : State). T (is_held z)) (sym s) tt))
+      T_not _ (free_all c i) (holds_found es c r l u (subst (λ (z : State). T (is_held z)) (sym s) tt))
 
   none_withdrawn : (r : ℕ) → T (in_support r x) → IsWithdrawn ds r → ⊥
   none_withdrawn r t w = let es = b.entries in let (c, i, u) = from r t in
       unwithdrawn ds b.vocabulary es inv.static inv.states c (known c i) (standing-all c i) r u w
 
   not_given : Concluded ≡ Given → ⊥
-  not_given e = subst (λ o. T (is_given o)) (sym e) tt
+  not_given e = cc
 
   fresh_concluded : Fresh (concluded_by (length b.entries) cites goal) ds b.vocabulary b.entries (b.entries ++ x ∷ [])
   fresh_concluded = let es = b.entries in let long = longer es x in record {
@@ -210,14 +198,14 @@ module _ (m : Meaning) (sound : Sound m) (ds : Effects) (b : Model) (inv : Inv d
       let hyps = (root xs hs).hypotheses in
       let goal = (root xs hs).goal in
       unless_either Q (disorder (length es) 0 0 cites) UnknownCitation es _ (λ place. idle ds b inv) λ first.
-      unless_either Q (first_place (does_not_stand es) 0 cites) CitationNotStanding es _ (λ place. idle ds b inv) λ second.
-      unless_either Q (first_place (support_held es) 0 cites) CitationHeld es _ (λ place. idle ds b inv) λ third.
+      unless_either Q (position (does_not_stand es) cites) CitationNotStanding es _ (λ place. idle ds b inv) λ second.
+      unless_either Q (position (support_held es) cites) CitationHeld es _ (λ place. idle ds b inv) λ third.
       either_way Q (same_set (map (predicate_of es) cites) hyps) _ _
       (λ t. either_way Q (ltb (length es) 512) _ _
       (λ u. after_conclude ds b inv cites goal (ltb→lt _ _ u)
-      (ordered (length es) 0 0 cites first)
-      (λ c i. not_not (stands (at es c).state) (passing (does_not_stand es) 0 cites second c i))
-      (passing (support_held es) 0 cites third)
+      (of_all (λ c. c < length es) cites (all_below (length es) 0 0 cites first))
+      (λ c i. T_not-not (stands (at es c).state) (passing (does_not_stand es) cites second c i))
+      (passing (support_held es) cites third)
       (right (length xs - 1) (omega (arith, sized.0)) NotASequent).2.0
       (λ w f fits hyp. goal_true (true_in v w f) (true_in v w f goal) hyps
       (λ n i. let (c, j, e) = from_map (predicate_of es) cites n

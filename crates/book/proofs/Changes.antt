@@ -1,5 +1,6 @@
 -- States after hold, lift and withdraw.
-use Rattle.std.proofs.Common.{◌≡◌, ℕ, ◌<◌, Bool, true, false, cond, T, eqb, ◌⊎◌, List, ◌∷◌, map, length, set, sym, refl, ap, ◌∙◌, subst, inl, inr, ⊎_elim, arith, length-set}
+use Rattle.std.proofs.Common.{◌≡◌, ℕ, ◌<◌, Bool, true, false, cond, T, ◌⊎◌, List, ◌∷◌, map, length, set, sym, refl, ap, ◌∙◌, subst, inl, inr, ⊎_elim, arith, length-set}
+use Rattle.std.proofs.lemmas.Bool.{cases_eq}
 use lib.ListN.{length-map}
 use Rattle.logic.specs.Formulas.{Vocabulary}
 use Rattle.states.specs.declared.entry.Entry.{Entry}
@@ -12,8 +13,8 @@ use Rattle.states.specs.States.{becomes, stands}
 use Rattle.states.specs.Support.{in_support, with_state, lose}
 use Rattle.entries.specs.Lists.{at}
 use Rattle.book.proofs.Effects.{Effect, put_on_hold, lifted, withdrew, Effects, Withdraws, IsHeld, WithdrawnSince, IsWithdrawn}
-use Rattle.book.proofs.Static.{which, origins_differ, Kept, Static}
-use Rattle.book.proofs.EntryStates.{code, same_code, States, held_given, at_set, at_other, at_lose, kept_set, kept_lose, kept_twice}
+use Rattle.book.proofs.Static.{origins_differ, Kept, Static}
+use Rattle.book.proofs.EntryStates.{States, held_given, at_set, at_other, at_lose, kept_set, kept_lose, kept_twice}
 
 pub test : (b : Bool) → T b ⊎ (b ≡ false)
 test true = inl tt
@@ -41,21 +42,21 @@ module _ (ds : Effects) (es : List Entry) (st : States ds es) (r : ℕ) (lr : r 
     elsewhere : (e : ℕ) → (at changed e).origin ≡ Concluded → e ≡ r → ⊥
     elsewhere e o same = origins_differ _ og (sym (kept_set es r s lr r lr).1 ∙ subst (λ k. (at changed k).origin ≡ Concluded) same o)
 
-  module _ (s t : State) (d : Effect) (up : T (stands t)) (was : (at es r).state ≡ s) (not-withdrawn : T (eqb (code s) (code Withdrawn)) → ⊥)
+  module _ (s t : State) (d : Effect) (up : T (stands t)) (was : (at es r).state ≡ s) (not-withdrawn : s ≡ Withdrawn → ⊥)
       (none_withdrawn : (q : ℕ) → Withdraws q d → ⊥) (after : (q : ℕ) → IsHeld (d ∷ ds) q → (q ≡ r → t ≡ Held) × ((q ≡ r → ⊥) → IsHeld ds q)) where
     pub states_change : States (d ∷ ds) (changed t)
     states_change = let long = as_long t in record {
       withdrawn_in = λ q. ⊎_elim (λ h. absurd (none_withdrawn q h)) (λ h. let (l, u) = st.withdrawn_in q h in ⊎_elim
-          (λ same. absurd (not-withdrawn (same_code _ s Withdrawn was (subst (λ k. (at es k).state ≡ Withdrawn) same u))))
-          (λ n. (omega arith, rw (there t q n) u)) (which q r));
+          (λ same. absurd (not-withdrawn (sym was ∙ subst (λ k. (at es k).state ≡ Withdrawn) same u)))
+          (λ n. (omega arith, rw (there t q n) u)) (cases_eq q r));
       held_in = λ q h. let (a, b) = after q h in ⊎_elim
           (λ same. (omega arith, subst (λ k. (at (changed t) k).state ≡ Held) (sym same) (here t ∙ a same)))
-          (λ n. let (l, u) = st.held_in q (b n) in (omega arith, rw (there t q n) u)) (which q r);
+          (λ n. let (l, u) = st.held_in q (b n) in (omega arith, rw (there t q n) u)) (cases_eq q r);
       given_state = λ e lt o. ⊎_elim
           (λ same. inl (subst (λ k. T (stands (at (changed t) k).state)) (sym same) (subst (λ k. T (stands k)) (sym (here t)) up)))
           (λ n. subst (λ y. T (stands y.state) ⊎ IsWithdrawn (d ∷ ds) e) (sym (there t e n))
           (⊎_elim inl (λ w. inr (inr w)) (st.given_state e (omega arith) (ap (λ y. y.origin) (sym (there t e n)) ∙ o))))
-          (which e r);
+          (cases_eq e r);
       concluded_state = λ e lt o. let n = elsewhere t e o in
           subst (λ y. (y.state ≡ Standing) ⊎ ((q : ℕ) × (y.state ≡ Fallen) × T (in_support q y) × WithdrawnSince (d ∷ ds) e q)) (sym (there t e n))
           (⊎_elim inl (λ (q, u, f, w). inr (q, u, f, inr w)) (st.concluded_state e (omega arith) (ap (λ y. y.origin) (sym (there t e n)) ∙ o)));
@@ -64,11 +65,11 @@ module _ (ds : Effects) (es : List Entry) (st : States ds es) (r : ℕ) (lr : r 
     }
 
   pub states_hold : (at es r).state ≡ Standing → States (put_on_hold r ∷ ds) (changed Held)
-  states_hold was = states_change Standing Held (put_on_hold r) tt was (λ t. t) (λ q h. h)
+  states_hold was = states_change Standing Held (put_on_hold r) tt was (λ e. cc) (λ q h. h)
       λ q. ⊎_elim (λ same. (λ e. refl, λ n. absurd (n (sym same)))) (λ (h, u). (λ e. refl, λ n. h))
 
   pub states_lift : (at es r).state ≡ Held → States (lifted r ∷ ds) (changed Standing)
-  states_lift was = states_change Held Standing (lifted r) tt was (λ t. t) (λ q h. h)
+  states_lift was = states_change Held Standing (lifted r) tt was (λ e. cc) (λ q h. h)
       λ q. ⊎_elim absurd (λ (h, u). (λ e. absurd (u (sym e)), λ n. h))
 
 lose_given : (r : ℕ) (x : Entry) → x.origin ≡ Given → (lose r x).state ≡ x.state
@@ -87,16 +88,16 @@ lose_hit r x o t s = rw (TIs (in_support r x) t, o, s) refl
 lose_missed : (r : ℕ) (x : Entry) → in_support r x ≡ false → (lose r x).state ≡ x.state
 lose_missed r x f = rw f refl
 
-lose_settled : (r : ℕ) (x : Entry) (s : State) → x.state ≡ s → (T (eqb (code s) (code Standing)) → ⊥) → (lose r x).state ≡ s
+lose_settled : (r : ℕ) (x : Entry) (s : State) → x.state ≡ s → (s ≡ Standing → ⊥) → (lose r x).state ≡ s
 lose_settled r x s e n = rw e (go (in_support r x) x.origin s n)
   where
-    go : (b : Bool) (o : Origin) (s : State) → (T (eqb (code s) (code Standing)) → ⊥) → cond b (becomes s Loss o) s ≡ s
+    go : (b : Bool) (o : Origin) (s : State) → (s ≡ Standing → ⊥) → cond b (becomes s Loss o) s ≡ s
     go false o s n = refl
     go true Given Standing n = refl
     go true Given Held n = refl
     go true Given Withdrawn n = refl
     go true Given Fallen n = refl
-    go true Concluded Standing n = absurd (n tt)
+    go true Concluded Standing n = absurd (n refl)
     go true Concluded Held n = refl
     go true Concluded Withdrawn n = refl
     go true Concluded Fallen n = refl
@@ -121,7 +122,7 @@ module _ (ds : Effects) (v : Vocabulary) (es : List Entry) (known : Static ds v 
   rest : (e : ℕ) → (e ≡ r → ⊥) → at without_rule e ≡ lose r (at es e)
   rest e n = at_lose (set es r (with_state (at es r) Withdrawn)) r e ∙ ap (lose r) (at_other es r e (with_state (at es r) Withdrawn) n)
 
-  settled : (e : ℕ) (s : State) → (e ≡ r → ⊥) → (at es e).state ≡ s → (T (eqb (code s) (code Standing)) → ⊥) → (at without_rule e).state ≡ s
+  settled : (e : ℕ) (s : State) → (e ≡ r → ⊥) → (at es e).state ≡ s → (s ≡ Standing → ⊥) → (at without_rule e).state ≡ s
   settled e s n u c = rw (rest e n) (lose_settled r (at es e) s u c)
 
   other : (e : ℕ) → (at es e).origin ≡ Concluded → e ≡ r → ⊥
@@ -137,13 +138,13 @@ module _ (ds : Effects) (v : Vocabulary) (es : List Entry) (known : Static ds v 
       (λ t. inr (r, rw (rest e n) (lose_hit r (at es e) o t s), rw kf t, inl (refl, known.concluded_out e l o)))
       (λ f. inl (ap (λ y. y.state) (rest e n) ∙ lose_missed r (at es e) f ∙ s))
       (test (in_support r (at es e))))
-      (λ (q, s, t, w). inr (q, settled e Fallen n s (λ c. c), rw kf t, inr w))
+      (λ (q, s, t, w). inr (q, settled e Fallen n s (λ e. cc), rw kf t, inr w))
       (st.concluded_state e l o)
 
   falls_so : (e : ℕ) → e < length es → (at es e).origin ≡ Concluded → T (in_support r (at es e)) → (at without_rule e).state ≡ Fallen
   falls_so e l o t = let n = other e o in ⊎_elim
       (λ s. rw (rest e n) (lose_hit r (at es e) o t s))
-      (λ (q, s, u, w). settled e Fallen n s (λ c. c))
+      (λ (q, s, u, w). settled e Fallen n s (λ e. cc))
       (st.concluded_state e l o)
 
   pub states_withdraw : States (withdrew r ∷ ds) without_rule
@@ -152,15 +153,15 @@ module _ (ds : Effects) (v : Vocabulary) (es : List Entry) (known : Static ds v 
     withdrawn_in = λ q. ⊎_elim (λ same. (omega arith, subst (λ k. (at without_rule k).state ≡ Withdrawn) same rule))
         (λ h. let (l, u) = st.withdrawn_in q h in ⊎_elim
         (λ same. (omega arith, subst (λ k. (at without_rule k).state ≡ Withdrawn) (sym same) rule))
-        (λ n. (omega arith, settled q Withdrawn n u (λ c. c))) (which q r));
-    held_in = λ q. ⊎_elim absurd (λ (h, u). let (l, s) = st.held_in q h in (omega arith, settled q Held (λ e. u (sym e)) s (λ c. c)));
+        (λ n. (omega arith, settled q Withdrawn n u (λ e. cc))) (cases_eq q r));
+    held_in = λ q. ⊎_elim absurd (λ (h, u). let (l, s) = st.held_in q h in (omega arith, settled q Held (λ e. u (sym e)) s (λ e. cc)));
     given_state = λ e lt o. let l : e < length es = omega arith in ⊎_elim
         (λ same. inr (inl (sym same)))
         (λ n. let o' = sym (kept_without e l).1 ∙ o in ⊎_elim
         (λ u. inl (subst (λ k. T (stands k)) (sym (ap (λ y. y.state) (rest e n) ∙ lose_given r (at es e) o')) u)) (λ w. inr (inr w)) (st.given_state e l o'))
-        (which e r);
+        (cases_eq e r);
     concluded_state = λ e lt o. let l : e < length es = omega arith in concluded_after e l (sym (kept_without e l).1 ∙ o);
     fallen_in = λ e lt o q t. let l : e < length es = omega arith in let o' = sym (kept_without e l).1 ∙ o in let t' = rw (kept_without e l).3 at t in
         ⊎_elim (λ same. falls_so e l o' (subst (λ k. T (in_support k (at es e))) (sym same) t'))
-        (λ h. settled e Fallen (other e o') (st.fallen_in e l o' q t' h) (λ c. c));
+        (λ h. settled e Fallen (other e o') (st.fallen_in e l o' q t' h) (λ e. cc));
   }

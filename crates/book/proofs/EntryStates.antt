@@ -1,6 +1,6 @@
 -- What the effects say of states agrees with the book, and stays so.
-use Rattle.std.proofs.Common.{◌≡◌, ℕ, ◌+◌, ◌<◌, T, eqb, ◌⊎◌, List, [], ◌∷◌, ◌++◌, map, length, set, sym, refl, ap, ◌∙◌, subst, inl, inr, ⊎_elim, arith, length-append, length-set}
-use lib.Dec.{eqb_refl}
+use Rattle.std.proofs.Common.{◌≡◌, ℕ, ◌+◌, ◌<◌, T, ◌⊎◌, List, [], ◌∷◌, ◌++◌, map, length, set, sym, refl, ap, ◌∙◌, subst, inl, inr, ⊎_elim, arith, length-append, length-set}
+use Rattle.std.proofs.lemmas.Bool.{cases_lt, cases_eq}
 use lib.ListN.{length-map, get_or-map}
 use Rattle.std.proofs.lemmas.List.{get_or_push, get_or_append_left, get_or-set_same, get_or-set_other}
 use Rattle.states.specs.declared.entry.Entry.{Entry}
@@ -11,17 +11,7 @@ use Rattle.states.specs.States.{stands}
 use Rattle.states.specs.Support.{in_support, with_state, lose}
 use Rattle.entries.specs.Lists.{no_entry, at}
 use Rattle.book.proofs.Effects.{Effect, Effects, Withdraws, HoldsNow, IsWithdrawn, IsHeld, WithdrawnSince}
-use Rattle.book.proofs.Static.{split, which, origin_is, Kept}
-
-abbrev pub code : State → ℕ
-code Standing = 0
-code Held = 1
-code Withdrawn = 2
-code Fallen = 3
-
--- two names for one state have one code
-pub same_code : (x s t : State) → x ≡ s → x ≡ t → T (eqb (code s) (code t))
-same_code x s t p q = subst (λ y. T (eqb (code s) (code y))) (sym p ∙ q) (eqb_refl (code s))
+use Rattle.book.proofs.Static.{origin_is, Kept}
 
 pub record States (ds : Effects) (es : List Entry) : Type 0 where
   pub withdrawn_in : (r : ℕ) → IsWithdrawn ds r → (r < length es) × ((at es r).state ≡ Withdrawn)
@@ -34,7 +24,7 @@ pub record States (ds : Effects) (es : List Entry) : Type 0 where
 -- a held entry is a given rule
 pub held_given : (ds : Effects) (es : List Entry) → States ds es → (r : ℕ) → r < length es → (at es r).state ≡ Held → (at es r).origin ≡ Given
 held_given ds es st r lt h = ⊎_elim (λ o. o)
-    (λ o. ⊎_elim (λ s. absurd (same_code _ Held Standing h s)) (λ (q, s, t, u). absurd (same_code _ Held Fallen h s)) (st.concluded_state r lt o))
+    (λ o. ⊎_elim (λ s. cc) (λ (q, s, t, u). cc) (st.concluded_state r lt o))
     (origin_is (at es r).origin)
 
 -- places
@@ -67,7 +57,7 @@ kept_set es r s lr e lt = let long = length-set es r (with_state (at es r) s) in
     (sym same) (let here = at_set es r (with_state (at es r) s) lr in
     (omega arith, ap (λ y. y.origin) here, ap (λ y. y.predicate) here, ap (λ (y : Entry). y.support) here)))
     (λ n. let there = at_other es r e (with_state (at es r) s) n in (omega arith, ap (λ y. y.origin) there, ap (λ y. y.predicate) there, ap (λ (y : Entry). y.support) there))
-    (which e r)
+    (cases_eq e r)
 
 pub kept_lose : (es : List Entry) (r : ℕ) → Kept es (map (lose r) es)
 kept_lose es r e lt = let long = length-map es (lose r) in let same = at_lose es r e in
@@ -92,7 +82,7 @@ module _ (d : Effect) (ds : Effects) (es : List Entry) (quiet : (r : ℕ) → (W
     either_place P old last e lt = let long = longer es x in ⊎_elim
         (λ l. rw (at_old es x e l) (old e l))
         (λ l. let same : length es ≡ e = omega arith in subst (λ k. P k (at (es ++ x ∷ []) k)) same (rw (at_new es x) last))
-        (split e (length es))
+        (cases_lt e (length es))
 
     pub states_append : States (d ∷ ds) (es ++ x ∷ [])
     states_append = let q = states_quiet in let long = longer es x in record {

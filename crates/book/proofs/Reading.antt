@@ -1,5 +1,8 @@
 -- The law, from what agrees between the effects and the book.
-use Rattle.std.proofs.Common.{◌≡◌, ℕ, zero, suc, ◌+◌, ◌<◌, ◌≤◌, Bool, true, false, cond, T, eqb, ltb, ◌↔◌, List, [], ◌∷◌, length, get_or, Some, None, Ok, Err, Option, Result, sym, refl, ap, ◌∙◌, subst, inl, inr, ⊎_elim, le_of_suc-le-suc, not-suc-le-zero, arith, eqb→eq, ltb→lt, lt→ltb}
+use Rattle.std.proofs.Common.{◌≡◌, ℕ, ◌<◌, ◌≤◌, Bool, true, false, cond, T, eqb, ltb, ◌↔◌, List, [], ◌∷◌, length, get_or, Some, None, Ok, Err, position, sym, refl, ap, ◌∙◌, subst, inl, inr, ⊎_elim, eqb→eq, ltb→lt, lt→ltb}
+use Rattle.std.proofs.lemmas.Bool.{cases_lt}
+use Rattle.std.proofs.lemmas.List.Quantifiers.{position-Some}
+use Rattle.entries.proofs.Placing.{position-None}
 use lib.Dec.{eqb_refl}
 use Rattle.logic.specs.Formulas.{Vocabulary, WellFormed}
 use Rattle.logic.specs.Deciding.{is_predicate}
@@ -11,7 +14,6 @@ use Rattle.states.specs.declared.entry.Origin.TheVariants.{Given, Concluded}
 use Rattle.states.specs.declared.entry.State.TheVariants.{Standing}
 use Rattle.states.specs.declared.refusal.Refusal.TheVariants.{NotAPredicate, UnknownEntry}
 use Rattle.states.specs.States.{stands}
-use Rattle.entries.specs.Scans.{first_place}
 use Rattle.states.specs.Support.{in_support, facts, stands_with}
 use Rattle.entries.specs.Lists.{no_entry, at}
 use Rattle.book.specs.Books.{Model, ask_entry, ask_predicate}
@@ -53,43 +55,9 @@ since_withdrawn (d ∷ ds) e r (inl h) = inl h.0
 since_withdrawn (d ∷ ds) e r (inr h) = inr (since_withdrawn ds e r h)
 
 -- answers
-un_ok : {A B : Type 0} → A → Result A B → A
-un_ok d (Ok x) = x
-un_ok d (Err y) = d
-
-is_ok : {A B : Type 0} → Result A B → Bool
-is_ok (Ok x) = true
-is_ok (Err y) = false
-
 pub granted_by : {A B : Type 0} (b : Bool) (x y : A) (z : B) → cond b (Ok x) (Err z) ≡ Ok y → T b × (x ≡ y)
-unfolding un_ok is_ok
-granted_by true x y z e = (tt, ap (un_ok x) e)
-granted_by false x y z e = absurd (subst (λ a. T (is_ok a)) (sym e) tt)
-
-some_or : ℕ → Option ℕ → ℕ
-some_or d (Some n) = n
-some_or d None = d
-
-is_some : Option ℕ → Bool
-is_some (Some n) = true
-is_some None = false
-
-pub some_is : (m n : ℕ) → Some m ≡ Some n → m ≡ n
-unfolding some_or
-some_is m n e = ap (some_or 0) e
-
-pub none_is_not : (n : ℕ) → None ≡ Some n → ⊥
-unfolding is_some
-none_is_not n e = subst (λ a. T (is_some a)) (sym e) tt
-
-found : (p : Entry → Bool) (k : ℕ) (xs : List Entry) (n : ℕ) → first_place p k xs ≡ Some n → (i : ℕ) × (n ≡ k + i) × (i < length xs) × T (p (get_or xs i no_entry))
-found p k [] n e = absurd (none_is_not n e)
-found p k (x ∷ xs) n e = go (p x) (λ t. t) (found p (k + 1) xs n) e
-  where
-    go : (b : Bool) → (T b → T (p x)) → (first_place p (k + 1) xs ≡ Some n → (i : ℕ) × (n ≡ (k + 1) + i) × (i < length xs) × T (p (get_or xs i no_entry))) →
-        cond b (Some k) (first_place p (k + 1) xs) ≡ Some n → (i : ℕ) × (n ≡ k + i) × (i < suc (length xs)) × T (p (get_or (x ∷ xs) i no_entry))
-    go true t r e = let same = some_is k n e in (0, omega arith, omega arith, t tt)
-    go false t r e = let (i, s, l, h) = r e in (suc i, omega arith, omega arith, h)
+granted_by true x y z e = (tt, cc)
+granted_by false x y z e = cc
 
 pub asked_entry : (b : Model) (e : ℕ) (t : EntryFacts) → ask_entry b e ≡ Ok t → (e < length b.entries) × (facts (at b.entries e) ≡ t)
 asked_entry b e t h = let (l, s) = granted_by (ltb e (length b.entries)) (facts (at b.entries e)) t UnknownEntry h in (ltb→lt _ _ l, s)
@@ -100,34 +68,15 @@ told_entry b e lt = rw (TIs _ (lt→ltb e (length b.entries) lt)) refl
 asked_predicate : (b : Model) (p e : ℕ) → ask_predicate b p ≡ Ok (Some e) →
     (e < length b.entries) × ((at b.entries e).predicate ≡ p) × T (stands (at b.entries e).state)
 asked_predicate b p e h =
-    let (l, s) = granted_by (is_predicate b.vocabulary p) (first_place (stands_with p) 0 b.entries) (Some e) NotAPredicate h in
-    let (i, k, m, t) = found (stands_with p) 0 b.entries e s in
-    let same : i ≡ e = omega arith in (
-      omega arith,
-      subst (λ j. (get_or b.entries j no_entry).predicate ≡ p) same (eqb→eq _ _ (and_left _ _ t)),
-      subst (λ j. T (stands (get_or b.entries j no_entry).state)) same (and_right _ _ t),
-    )
+    let (l, s) = granted_by (is_predicate b.vocabulary p) (position (stands_with p) b.entries) (Some e) NotAPredicate h in
+    let (lt, passes, before) = position-Some (stands_with p) b.entries e no_entry s in
+    let t = subst T (sym passes) tt in
+    (lt, eqb→eq _ _ (and_left _ _ t), and_right _ _ t)
 
 -- the two asks
-lowest : (p : Entry → Bool) (k : ℕ) (xs : List Entry) (n : ℕ) → first_place p k xs ≡ Some n → (j : ℕ) → j < length xs → T (p (get_or xs j no_entry)) → n ≤ k + j
-lowest p k [] n e j l t = absurd (not-suc-le-zero l)
-lowest p k (x ∷ xs) n e j l t = go (p x) (λ t. t) (lowest p (k + 1) xs n) e j l t
-  where
-    go : (b : Bool) → (T (p x) → T b) → (first_place p (k + 1) xs ≡ Some n → (j : ℕ) → j < length xs → T (p (get_or xs j no_entry)) → n ≤ (k + 1) + j) →
-        cond b (Some k) (first_place p (k + 1) xs) ≡ Some n → (j : ℕ) → j < suc (length xs) → T (p (get_or (x ∷ xs) j no_entry)) → n ≤ k + j
-    go true t r e j l u = let same = some_is k n e in omega arith
-    go false t r e zero l u = absurd (t u)
-    go false t r e (suc j) l u = let h = r e j (le_of_suc-le-suc l) u in omega arith
-
-nowhere : (p : Entry → Bool) (k : ℕ) (xs : List Entry) → first_place p k xs ≡ None → (j : ℕ) → j < length xs → T (p (get_or xs j no_entry)) → ⊥
-nowhere p k [] e j l t = not-suc-le-zero l
-nowhere p k (x ∷ xs) e j l t = go (p x) (λ t. t) (nowhere p (k + 1) xs) e j l t
-  where
-    go : (b : Bool) → (T (p x) → T b) → (first_place p (k + 1) xs ≡ None → (j : ℕ) → j < length xs → T (p (get_or xs j no_entry)) → ⊥) →
-        cond b (Some k) (first_place p (k + 1) xs) ≡ None → (j : ℕ) → j < suc (length xs) → T (p (get_or (x ∷ xs) j no_entry)) → ⊥
-    go true t r e j l u = none_is_not k (sym e)
-    go false t r e zero l u = t u
-    go false t r e (suc j) l u = r e j (le_of_suc-le-suc l) u
+-- what passes is not before the first place
+not_passed : (p : Entry → Bool) (xs : List Entry) (n j : ℕ) → position p xs ≡ Some n → T (p (get_or xs j no_entry)) → n ≤ j
+not_passed p xs n j e t = ⊎_elim (λ (l : j < n). absurd (subst T ((position-Some p xs n no_entry e).2 j l) t)) (λ (l : n ≤ j). l) (cases_lt j n)
 
 module _ (b : Model) (p : ℕ) where
   passes_test : (i : ℕ) (o : Origin) → SaysOf b i o p → (i < length b.entries) × T (stands_with p (at b.entries i))
@@ -139,7 +88,7 @@ module _ (b : Model) (p : ℕ) where
 
   pub asks_agree : AsksAgree b p
   asks_agree = record {
-    one = λ e h. let (l, s) = granted_by (is_predicate b.vocabulary p) (first_place (stands_with p) 0 b.entries) (Some e) NotAPredicate h in
+    one = λ e h. let (l, s) = granted_by (is_predicate b.vocabulary p) (position (stands_with p) b.entries) (Some e) NotAPredicate h in
         let (lt, q, t) = asked_predicate b p e h in (
           (
             (at b.entries e).origin,
@@ -149,10 +98,10 @@ module _ (b : Model) (p : ℕ) where
               answer = told_entry b e lt ∙ (λ i. Ok (record { origin = (at b.entries e).origin; predicate = q i; state = (at b.entries e).state }));
             },
           ),
-          λ i o says. let (li, u) = passes_test i o says in let m = lowest (stands_with p) 0 b.entries e s i li u in omega arith,
+          λ i o says. let (li, u) = passes_test i o says in not_passed (stands_with p) b.entries e i s u,
         );
-    none = λ h i o says. let (l, s) = granted_by (is_predicate b.vocabulary p) (first_place (stands_with p) 0 b.entries) None NotAPredicate h in
-        let (li, u) = passes_test i o says in nowhere (stands_with p) 0 b.entries s i li u;
+    none = λ h i o says. let (l, s) = granted_by (is_predicate b.vocabulary p) (position (stands_with p) b.entries) None NotAPredicate h in
+        let (li, u) = passes_test i o says in subst T (position-None (stands_with p) b.entries i no_entry s li) u;
   }
 
 module _ (ds : Effects) (b : Model) (inv : Inv ds b) where

@@ -1,34 +1,22 @@
 -- What the effects say of entries, supports and predicates agrees with the book, and stays so.
-use Rattle.std.proofs.Common.{◌≡◌, ℕ, ◌<◌, ◌≤◌, Bool, true, false, not, T, leb, ◌⊎◌, ◌↔◌, List, ◌∷◌, length, sym, refl, ap, ◌∙◌, subst, inl, inr, ⊎_elim, arith, leb→le}
-use native.Mathlib.Decide.{ℕ_discrete}
-use lib.Dec.{nleb→lt}
+use Rattle.std.proofs.Common.{◌≡◌, ℕ, ◌<◌, ◌≤◌, T, ◌⊎◌, ◌↔◌, List, ◌∷◌, length, sym, refl, ap, ◌∙◌, subst, inl, inr, ⊎_elim, arith}
+use Rattle.std.proofs.lemmas.Bool.{cases_lt}
 use Rattle.logic.specs.Formulas.{In, Vocabulary}
 use Rattle.logic.specs.Meanings.{Value, Structure, meaning, holds as holds-value, Interpretation, true_in}
 use Rattle.states.specs.declared.entry.Entry.{Entry}
 use Rattle.states.specs.declared.entry.Origin.{Origin}
 use Rattle.states.specs.declared.entry.Origin.TheVariants.{Given, Concluded}
-use Rattle.states.specs.States.{is_given}
 use Rattle.states.specs.Support.{in_support}
 use Rattle.entries.specs.Lists.{at}
 use Rattle.book.specs.Law.{Once}
 use Rattle.book.proofs.Effects.{Effect, named, gave, concluded_by, put_on_hold, lifted, withdrew, nothing, Effects, Gives, Accepts, Reaches, WasGiven, WasConcluded, Accepted, IsHeld, Support, itself, cited, AcceptedWhileHeld}
-
-pub split : (m n : ℕ) → (m < n) ⊎ (n ≤ m)
-split m n = go (leb n m) (leb→le n m) (nleb→lt n m)
-  where
-    go : (b : Bool) → (T b → n ≤ m) → (T (not b) → m < n) → (m < n) ⊎ (n ≤ m)
-    go true f g = inr (f tt)
-    go false f g = inl (g tt)
-
-pub which : (a b : ℕ) → (a ≡ b) ⊎ (a ≡ b → ⊥)
-which a b = elim (ℕ_discrete a b) [ yes p ↦ inl p | no n ↦ inr n ]
 
 pub origin_is : (o : Origin) → (o ≡ Given) ⊎ (o ≡ Concluded)
 origin_is Given = inl refl
 origin_is Concluded = inr refl
 
 pub origins_differ : (o : Origin) → o ≡ Given → o ≡ Concluded → ⊥
-origins_differ o p q = subst (λ x. T (is_given x)) (sym p ∙ q) tt
+origins_differ o p q = cc
 
 -- a vocabulary and what it has grown to: what was there means the same
 pub record Growing (v v' : Vocabulary) : Type 0 where
@@ -90,7 +78,7 @@ module _ (d : Effect) (ds : Effects) (v v' : Vocabulary) (es es' : List Entry) (
   given_out' : (e : ℕ) → e < length es' → (at es' e).origin ≡ Given → WasGiven (d ∷ ds) e (at es' e).predicate
   given_out' e lt o = ⊎_elim
       (λ l. let (lt', ko, kp, kf) = kept e l in inr (subst (WasGiven ds e) (sym kp) (old.given_out e l (sym ko ∙ o))))
-      (λ l. inl (new.given_new e l lt o)) (split e (length es))
+      (λ l. inl (new.given_new e l lt o)) (cases_lt e (length es))
 
   concluded_in' : (e : ℕ) (cites : List ℕ) → WasConcluded (d ∷ ds) e cites → (e < length es') × ((at es' e).origin ≡ Concluded) ×
       ((c : ℕ) → In c cites → (c < length es') × ((r : ℕ) → T (in_support r (at es' c)) → T (in_support r (at es' e))))
@@ -102,7 +90,7 @@ module _ (d : Effect) (ds : Effects) (v v' : Vocabulary) (es es' : List Entry) (
   concluded_out' : (e : ℕ) → e < length es' → (at es' e).origin ≡ Concluded → Accepted (d ∷ ds) e
   concluded_out' e lt o = ⊎_elim
       (λ l. let (lt', ko, kp, kf) = kept e l in let (cites, h) = old.concluded_out e l (sym ko ∙ o) in (cites, inr h))
-      (λ l. let (cites, h, f, g) = new.accepted_new e l lt o in (cites, inl h)) (split e (length es))
+      (λ l. let (cites, h, f, g) = new.accepted_new e l lt o in (cites, inl h)) (cases_lt e (length es))
 
   reached_in' : (e p : ℕ) → Once (Reaches e p) (d ∷ ds) → (e < length es') × ((at es' e).origin ≡ Concluded) × ((at es' e).predicate ≡ p)
   reached_in' e p (inl h) = new.reaches_new e p h
@@ -111,12 +99,12 @@ module _ (d : Effect) (ds : Effects) (v v' : Vocabulary) (es es' : List Entry) (
   reached_out' : (e : ℕ) → e < length es' → (at es' e).origin ≡ Concluded → Once (Reaches e (at es' e).predicate) (d ∷ ds)
   reached_out' e lt o = ⊎_elim
       (λ l. let (lt', ko, kp, kf) = kept e l in inr (subst (λ q. Once (Reaches e q) ds) (sym kp) (old.reached_out e l (sym ko ∙ o))))
-      (λ l. inl (new.reached_new e l lt o)) (split e (length es))
+      (λ l. inl (new.reached_new e l lt o)) (cases_lt e (length es))
 
   own' : (e : ℕ) → e < length es' → (at es' e).origin ≡ Given → (r : ℕ) → T (in_support r (at es' e)) ↔ (e ≡ r)
   own' e lt o r = ⊎_elim
       (λ l. let (lt', ko, kp, kf) = kept e l in rw kf (old.own e l (sym ko ∙ o) r))
-      (λ l. new.own_new e l lt o r) (split e (length es))
+      (λ l. new.own_new e l lt o r) (cases_lt e (length es))
 
   rules' : (e : ℕ) → e < length es' → (r : ℕ) → T (in_support r (at es' e)) → Support (d ∷ ds) e r × (r < length es') × ((at es' r).origin ≡ Given)
   rules' e lt r t = ⊎_elim
@@ -129,7 +117,7 @@ module _ (d : Effect) (ds : Effects) (v v' : Vocabulary) (es es' : List Entry) (
       let (m, b) = (new.accepts_new e cites h).2 c i in
       let (support, lr, given-r) = from_old c m u in (cited cites (inl h) c i support, lr, given-r))
       (origin_is (at es' e).origin))
-      (split e (length es))
+      (cases_lt e (length es))
     where
       from_old : (e : ℕ) → e < length es → T (in_support r (at es e)) → Support (d ∷ ds) e r × (r < length es') × ((at es' r).origin ≡ Given)
       from_old e l t = let (support, lr, o) = old.rules e l r t in let (lr', ko, kp, kf) = kept r lr in (support_later d ds e r support, lr', ko ∙ o)
@@ -143,7 +131,7 @@ module _ (d : Effect) (ds : Effects) (v v' : Vocabulary) (es es' : List Entry) (
       (λ o. let (cites, h, g, k) = new.accepted_new e l lt o in
       k w f fits λ c i. let (m, b) = (new.accepts_new e cites h).2 c i in from_old c m λ r t. hyp r (b r t))
       (origin_is (at es' e).origin))
-      (split e (length es))
+      (cases_lt e (length es))
     where
       from_old : (e : ℕ) → e < length es → ((r : ℕ) → T (in_support r (at es e)) → T (true_in v' w f (at es' r).predicate)) → T (true_in v' w f (at es e).predicate)
       from_old e l hyp =
@@ -155,7 +143,7 @@ module _ (d : Effect) (ds : Effects) (v v' : Vocabulary) (es es' : List Entry) (
   known' : (e : ℕ) → e < length es' → (at es' e).predicate < length v'.formulas
   known' e lt = ⊎_elim
       (λ l. let (lt', ko, kp, kf) = kept e l in let m = grow.more in let k = old.known e l in rw kp (omega arith))
-      (λ l. new.known_new e l lt) (split e (length es))
+      (λ l. new.known_new e l lt) (cases_lt e (length es))
 
   clean' : (e r : ℕ) → AcceptedWhileHeld (d ∷ ds) e r → (e < length es') × (T (in_support r (at es' e)) → ⊥)
   clean' e r (inl ((cites, h), u)) = ((new.accepts_new e cites h).0, new.untainted_new e r cites h u)

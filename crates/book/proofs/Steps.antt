@@ -1,5 +1,6 @@
 -- Each call on the entries keeps what agrees between the effects and the book.
 use Rattle.std.proofs.Common.{◌≡◌, ℕ, ◌<◌, ◌≤◌, Bool, true, false, cond, not, T, ltb, List, [], ◌∷◌, ◌++◌, map, length, get_or, set, replicate, sym, refl, ap, ◌∙◌, subst, ⊎_elim, arith, ltb→lt, length-set}
+use Rattle.std.proofs.lemmas.Bool.{cases_lt, cases_eq}
 use Rattle.std.proofs.lemmas.List.{get_or-set_same, get_or-set_other, get_or-replicate, get_or_past, length-replicate}
 use Rattle.logic.specs.Deciding.{is_predicate}
 use Rattle.states.specs.declared.entry.Entry.{Entry}
@@ -20,7 +21,7 @@ use Rattle.book.specs.Books.{Model, Outcome, refuse, with_entries, on_entries, h
 use Rattle.book.specs.Runs.{gives, holds, lifts, withdraws}
 use Rattle.book.proofs.Effects.{gave, put_on_hold, lifted, withdrew, nothing, effect, Effects}
 use Rattle.book.proofs.Tests.{and_left, and_right}
-use Rattle.book.proofs.Static.{split, which, no_growth, Fresh, static_step, no_fresh}
+use Rattle.book.proofs.Static.{no_growth, Fresh, static_step, no_fresh}
 use Rattle.book.proofs.EntryStates.{at_new, longer, held_given, kept_append, kept_set, states_quiet, states_append}
 use Rattle.book.proofs.Changes.{states_hold, states_lift, kept_without, as_many, states_withdraw}
 use Rattle.book.proofs.Reading.{Inv}
@@ -50,10 +51,10 @@ self_marked : (n : ℕ) → n < 512 → T (get_or (set no_rules n true) n false)
 self_marked n l = subst T (sym (get_or-set_same no_rules n true false (simp length-replicate l))) tt
 
 marked_self : (n r : ℕ) → T (get_or (set no_rules n true) r false) → n ≡ r
-marked_self n r t = ⊎_elim (λ (e : r ≡ n). sym e) (λ (d : r ≡ n → ⊥). absurd (none d)) (which r n)
+marked_self n r t = ⊎_elim (λ (e : r ≡ n). sym e) (λ (d : r ≡ n → ⊥). absurd (none d)) (cases_eq r n)
   where
     blank : (k m : ℕ) → get_or (replicate k false) m false ≡ false
-    blank k m = ⊎_elim (λ (l : m < k). get_or-replicate k m false false l) (λ (l : k ≤ m). get_or_past (replicate k false) m false (simp length-replicate l)) (split m k)
+    blank k m = ⊎_elim (λ (l : m < k). get_or-replicate k m false false l) (λ (l : k ≤ m). get_or_past (replicate k false) m false (simp length-replicate l)) (cases_lt m k)
 
     none : (r ≡ n → ⊥) → ⊥
     none d = subst T (get_or-set_other no_rules n r true false d ∙ blank 512 r) t
@@ -81,7 +82,7 @@ module _ (ds : Effects) (b : Model) (inv : Inv ds b) (p : ℕ) (known : p < leng
   }
     where
       not_both : Given ≡ Concluded → ⊥
-      not_both e = subst (λ o. T (is_given o)) e tt
+      not_both e = cc
 
   pub after_give : Inv (gave (length b.entries) p ∷ ds) (with_entries b (b.entries ++ given_entry (length b.entries) p ∷ []))
   after_give = let long = longer b.entries (given_entry (length b.entries) p) in record {

@@ -1,16 +1,14 @@
 -- A derivation has one verdict.
-use Rattle.std.proofs.Common.{◌≡◌, ℕ, ◌≤◌, ◌↔◌, List, length, is_ok, IfOk, Ok, Err, Decides, Result, sym, refl, ap, ◌∙◌, inl, inr, arith}
+use Rattle.std.proofs.Common.{◌≡◌, ℕ, List, Ok, Err, Result, sym, ap, ◌∙◌, inl, inr, arith}
 use Rattle.std.proofs.lemmas.Bool.{false≢true}
 use Rattle.logic.specs.Formulas.{Vocabulary}
 use Rattle.logic.specs.Meanings.{Sequent as Seq}
 use Rattle.calculus.specs.declared.step.Step.{Step}
-use Rattle.calculus.specs.declared.sequent.Sequent.{Sequent}
 use Rattle.calculus.specs.declared.refusal.Refusal.{Refusal as DerivationRefusal}
-use Rattle.calculus.specs.Model.{seq}
 use Rattle.calculus.specs.Theories.{Meaning}
-use Rattle.calculus.specs.Derivations.{RightDerivation, FirstFault, root}
+use Rattle.calculus.specs.Derivations.{RightDerivation, FirstFault}
 use Rattle.calculus.proofs.Verdicts.{refused}
-use Rattle.book.specs.Concluding.{Judges, verdict_of}
+use Rattle.book.specs.Concluding.{Judges}
 
 un_err : {A B : Type 0} (x y : B) → ◌≡◌ {A = Result A B} (Err x) (Err y) → x ≡ y
 un_err x y e = cc
@@ -32,9 +30,4 @@ module _ (m : Meaning) (v : Vocabulary) (xs : List Step) (hs : List ℕ) where
   one_verdict cites (Err e) (Err d) (inl (k, i)) (inr (l, g)) = absurd (omega arith)
   one_verdict cites (Err e) (Err d) (inr (k, f)) (inl (l, j)) = absurd (omega arith)
   one_verdict cites (Err e) (Err d) (inr (k, f)) (inr (l, g)) = ap Err (one_fault e d f g)
-
   -- what the checker answers is the verdict
-  pub judged : (cites : List ℕ) (r : Result Sequent DerivationRefusal) → length cites ≤ 16 → Decides (is_ok r) (RightDerivation m v xs hs) →
-      ((e : DerivationRefusal) → (r ≡ Err e) ↔ FirstFault e m v xs hs) → IfOk r (λ s. seq s ≡ root xs hs) → Judges m v xs hs cites (verdict_of r)
-  judged cites (Ok s) few accepted refused is = (few, accepted.0 refl, is)
-  judged cites (Err e) few accepted refused is = inr (few, (refused e).0 refl)

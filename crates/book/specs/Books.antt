@@ -1,5 +1,5 @@
 -- A book as lists, and what each call answers and makes of it.
-use Rattle.std.specs.Prelude.{ℕ, Bool, cond, List, [], Ok, Err, Option, Result, ◌==◌}
+use Rattle.std.specs.Prelude.{ℕ, Bool, cond, List, [], Ok, Err, Option, Result, position, ◌==◌}
 use Rattle.logic.specs.Formulas.{Vocabulary}
 use Rattle.logic.specs.Growing.{empty_vocabulary}
 use Rattle.logic.specs.Deciding.{is_predicate}
@@ -10,7 +10,6 @@ use Rattle.states.specs.declared.entry.Entry.{Entry}
 use Rattle.states.specs.declared.entry.EntryFacts.{EntryFacts}
 use Rattle.states.specs.declared.refusal.Refusal.{Refusal}
 use Rattle.states.specs.declared.refusal.Refusal.TheVariants.{NotAPredicate, NotHeld}
-use Rattle.entries.specs.Scans.{first_place}
 use Rattle.entries.specs.Lists as entries
 use Rattle.states.specs.Support.{stands_with}
 use Rattle.entries.specs.Lists.{Change}
@@ -83,4 +82,4 @@ ask_entry b e = entries.ask b.entries e
 
 -- the lowest entry that stands with the predicate, or none
 abbrev pub ask_predicate : Model → ℕ → Result (Option ℕ) Refusal
-ask_predicate b p = cond (is_predicate b.vocabulary p) (Ok (first_place (stands_with p) 0 b.entries)) (Err NotAPredicate)
+ask_predicate b p = cond (is_predicate b.vocabulary p) (Ok (position (stands_with p) b.entries)) (Err NotAPredicate)

@@ -7,10 +7,10 @@ use Rattle.book.specs.declared.hold.RefusedHold.{RefusedHold}
 
 -- the hold that was refused
 abbrev pub hold_again : RefusedHold → Hold
-hold_again h = record { book = h.book; entry = h.entry }
+hold_again h = h.hold
 
 abbrev pub send_back : Hold → Refusal → Refused
-send_back h why = record { refusal = why; hold = record { book = h.book; entry = h.entry } }
+send_back h why = record { refusal = why; hold = record { hold = h } }
 
 -- a refusal sends the hold back
 abbrev pub answered : {A : Type 0} → Hold → Result A Refusal → Result A Refused

@@ -11,13 +11,12 @@ use vocabulary::store::Vocabulary;
 
 impl Book {
     // A new book for use with a theory, with all the memory that it will ever need. Every run of calls on it keeps the law.
-    pub fn begin<T: Theory>(heap: Global, number: u32, theory: &T) -> Result<Book, AllocError>
+    pub fn begin<T: Theory>(alloc: Global, number: u32, theory: &T) -> Result<Book, AllocError>
         ensures new { IfOk result (λ b. model b ≡ new_book number) }
         ensures law { KeepsTheLaw (T.meaning theory.now) }
     {
-        let _ = theory;
-        let vocabulary = Vocabulary::new(heap)?;
-        let entries = Entries::new(heap)?;
+        let vocabulary = Vocabulary::new(alloc)?;
+        let entries = Entries::new(alloc)?;
         Ok(Book {
             number,
             vocabulary,

@@ -27,7 +27,8 @@ impl Book {
         self.number
     }
 
-    // Judges a derivation in the book's vocabulary, without concluding: the root's sequent, or the first fault.
+    // Judges a derivation in the book's vocabulary, without concluding: the root's sequent, or the first fault. The steps and the list are
+    // lent as callers have them, here and in `conclude`, and in no struct that callers would have to make.
     pub fn check<T: Theory>(
         &self,
         theory: &T,

@@ -7,7 +7,7 @@ ghost use Rattle.book.specs.View.{model};
 
 use crate::store::Book;
 use calculus::check;
-use calculus::refusal::{Fault, Refusal as DerivationRefusal};
+use calculus::refusal::Refusal as DerivationRefusal;
 use calculus::sequent::Sequent;
 use calculus::step::Step;
 use calculus::theory::Theory;
@@ -15,7 +15,7 @@ use entries::calls::MAX_CITATIONS;
 use states::refusal::Refusal;
 
 impl Book {
-    // The checker's verdict; over 16 citations are a fault of the sizes.
+    // The checker's verdict; over 16 citations are a fault of the sizes. (The entries test it again, as they are called by others too.)
     fn judge<T: Theory>(
         &self,
         theory: &T,
@@ -26,10 +26,7 @@ impl Book {
         ensures { Judges (T.meaning theory.now) (model self.now).vocabulary steps.now hypotheses.now citations.now (verdict_of result) }
     {
         if citations.len() > MAX_CITATIONS {
-            return Err(DerivationRefusal {
-                fault: Fault::Size,
-                step: 0,
-            });
+            return Err(DerivationRefusal::SIZE);
         }
         check(theory, &self.vocabulary, steps, hypotheses)
     }
@@ -43,12 +40,9 @@ impl Book {
         ensures answer { result ≡ (conclude (model self.old) (verdict_of verdict) citations.now).answer }
         ensures after { model self.new ≡ (conclude (model self.old) (verdict_of verdict) citations.now).after }
     {
-        match verdict {
-            Ok(root) => self
-                .entries
-                .conclude(root.goal(), root.hypotheses(), citations),
-            Err(refusal) => Err(Refusal::Derivation(refusal)),
-        }
+        let root = verdict?;
+        self.entries
+            .conclude(root.goal(), root.hypotheses(), citations)
     }
 
     // A conclusion from the citations, by a derivation in the theory.

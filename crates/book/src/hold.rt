@@ -1,5 +1,5 @@
 ghost use Rattle.std.specs.Prelude.{◌≡◌};
-ghost use Rattle.book.specs.Holds.{hold_again};
+ghost use Rattle.book.specs.Holds.{answered, hold_again};
 
 use states::refusal::Refusal;
 
@@ -11,8 +11,7 @@ pub struct Hold {
 
 // A hold that was refused: it is made the same hold again or discarded.
 pub struct RefusedHold {
-    pub(crate) book: u32,
-    pub(crate) entry: u16,
+    hold: Hold,
 }
 
 // Why a hold was not ended, and the hold.
@@ -21,16 +20,38 @@ pub struct Refused {
     pub hold: RefusedHold,
 }
 
+impl Hold {
+    fn end(self) {
+        let Hold { book: _, entry: _ } = self;
+    }
+
+    // Ends the hold by what a call answered; a refusal sends it back.
+    pub(crate) fn answer<A>(self, answer: Result<A, Refusal>) -> Result<A, Refused>
+        ensures { result ≡ answered self answer }
+    {
+        match answer {
+            Ok(x) => {
+                self.end();
+                Ok(x)
+            }
+            Err(refusal) => Err(Refused {
+                refusal,
+                hold: RefusedHold { hold: self },
+            }),
+        }
+    }
+}
+
 impl RefusedHold {
     // The same hold again.
     pub fn into_hold(self) -> Hold
         ensures { result ≡ hold_again self }
     {
-        let RefusedHold { book, entry } = self;
-        Hold { book, entry }
+        let RefusedHold { hold } = self;
+        hold
     }
 
     pub fn discard(self) {
-        let RefusedHold { book: _, entry: _ } = self;
+        self.into_hold().end();
     }
 }

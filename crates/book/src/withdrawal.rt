@@ -4,7 +4,7 @@ ghost use Rattle.book.specs.Books.{hold, is_own, preview, lift, withdraw};
 ghost use Rattle.book.specs.Runs.{holds, previews, lifts, withdraws, DoesPlainly};
 ghost use Rattle.book.specs.View.{model};
 
-use crate::hold::{Hold, Refused, RefusedHold};
+use crate::hold::{Hold, Refused};
 use crate::store::Book;
 use states::refusal::Refusal;
 
@@ -21,13 +21,11 @@ impl Book {
         ensures after { model self.new ≡ (hold (model self.old) e).after }
         ensures does { DoesPlainly (model self.old) (holds e result) (model self.new) }
     {
-        match self.entries.hold(e) {
-            Ok(()) => Ok(Hold {
-                book: self.number,
-                entry: e,
-            }),
-            Err(refusal) => Err(refusal),
-        }
+        self.entries.hold(e)?;
+        Ok(Hold {
+            book: self.number,
+            entry: e,
+        })
     }
 
     // What a withdrawal would answer; the hold comes back as it was.
@@ -42,26 +40,18 @@ impl Book {
         (self.entries.preview(hold.entry), hold)
     }
 
+    // Lifting and withdrawing differ in the call on the entries. A closure for it would need its effect on them in a contract longer
+    // than the two bodies.
     pub fn lift(&mut self, hold: Hold) -> Result<(), Refused>
         ensures answer { result ≡ (lift (model self.old) hold).answer }
         ensures after { model self.new ≡ (lift (model self.old) hold).after }
         ensures does { DoesPlainly (model self.old) (lifts hold result) (model self.new) }
     {
-        let own = self.owns(&hold);
-        let Hold { book, entry } = hold;
-        if !own {
-            return Err(Refused {
-                refusal: Refusal::NotHeld,
-                hold: RefusedHold { book, entry },
-            });
+        if !self.owns(&hold) {
+            return hold.answer(Err(Refusal::NotHeld));
         }
-        match self.entries.lift(entry) {
-            Ok(()) => Ok(()),
-            Err(refusal) => Err(Refused {
-                refusal,
-                hold: RefusedHold { book, entry },
-            }),
-        }
+        let answer = self.entries.lift(hold.entry);
+        hold.answer(answer)
     }
 
     // Answers how many standing conclusions fall, and the lowest of them, or 0.
@@ -70,20 +60,10 @@ impl Book {
         ensures after { model self.new ≡ (withdraw (model self.old) hold).after }
         ensures does { DoesPlainly (model self.old) (withdraws hold result) (model self.new) }
     {
-        let own = self.owns(&hold);
-        let Hold { book, entry } = hold;
-        if !own {
-            return Err(Refused {
-                refusal: Refusal::NotHeld,
-                hold: RefusedHold { book, entry },
-            });
+        if !self.owns(&hold) {
+            return hold.answer(Err(Refusal::NotHeld));
         }
-        match self.entries.withdraw(entry) {
-            Ok(pair) => Ok(pair),
-            Err(refusal) => Err(Refused {
-                refusal,
-                hold: RefusedHold { book, entry },
-            }),
-        }
+        let answer = self.entries.withdraw(hold.entry);
+        hold.answer(answer)
     }
 }

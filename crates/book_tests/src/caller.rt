@@ -8,14 +8,14 @@ use formulas::calls::Call;
 use std::alloc::{AllocError, Global};
 
 pub fn enter_and_give<T: Theory>(
-    heap: Global,
+    alloc: Global,
     theory: &T,
     call: Call,
     p: u16,
 ) -> Result<Book, AllocError>
     ensures { IfOk result (λ b. LeftByARun (T.meaning theory.now) call p b) }
 {
-    let mut b = Book::begin(heap, 7, theory)?;
+    let mut b = Book::begin(alloc, 7, theory)?;
     let _ = b.enter(call);
     let _ = b.give(p);
     Ok(b)

@@ -28,6 +28,17 @@ fn begun(rt: &(impl Abort + AllocGlobal)) -> Result<Book, Fail> {
     Ok(b)
 }
 
+// What was granted; a hold that comes back is discarded.
+fn granted<T>(answer: Result<T, Refused>) -> Result<T, Fail> {
+    match answer {
+        Ok(given) => Ok(given),
+        Err(Refused { refusal: _, hold }) => {
+            hold.discard();
+            Err(Fail::new("refused"))
+        }
+    }
+}
+
 fn state_of(b: &Book, e: u16) -> Result<State, Fail> {
     Ok(b.ask_entry(e)?.state)
 }
@@ -35,18 +46,9 @@ fn state_of(b: &Book, e: u16) -> Result<State, Fail> {
 #[test]
 fn withdrawn(rt: HostRuntime) -> Result<(), Fail> {
     let mut b = begun(&rt)?;
-    let Ok(h) = b.hold(0) else {
-        return Err(Fail::new("not held"));
-    };
+    let h = b.hold(0)?;
     let (expected, h) = b.preview(h);
-    match b.withdraw(h) {
-        Ok(pair) => assert_eq!(rt; pair, (1, 1)),
-        Err(e) => {
-            let Refused { refusal: _, hold } = e;
-            hold.discard();
-            return Err(Fail::new("refused"));
-        }
-    }
+    assert_eq!(rt; granted(b.withdraw(h))?, (1, 1));
     assert_eq!(rt; expected, Ok((1, 1)));
     assert_eq!(rt; state_of(&b, 0)?, State::Withdrawn);
     assert_eq!(rt; state_of(&b, 1)?, State::Fallen);
@@ -58,15 +60,9 @@ fn withdrawn(rt: HostRuntime) -> Result<(), Fail> {
 fn held(rt: HostRuntime) -> Result<(), Fail> {
     let mut b = begun(&rt)?;
     assert_eq!(rt; b.ask_predicate(0)?, Some(0));
-    let Ok(h) = b.hold(0) else {
-        return Err(Fail::new("not held"));
-    };
+    let h = b.hold(0)?;
     let refused = b.conclude(&TruthRule, &[TOP], &[0], &[1]);
-    if let Err(e) = b.lift(h) {
-        let Refused { refusal: _, hold } = e;
-        hold.discard();
-        return Err(Fail::new("refused"));
-    }
+    granted(b.lift(h))?;
     assert_eq!(rt; refused, Err(Refusal::CitationHeld(0)));
     assert_eq!(rt; state_of(&b, 0)?, State::Standing);
     assert_eq!(rt; b.conclude(&TruthRule, &[TOP], &[0], &[1])?, 2);

@@ -1,5 +1,3 @@
-pub mod Few
-pub mod Alls
 pub mod Derived
 pub mod Deciding
 pub mod Sorted

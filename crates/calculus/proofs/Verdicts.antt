@@ -1,5 +1,5 @@
 -- A derivation is right or has one first fault, and not both.
-use Rattle.std.proofs.Common.{◌≡◌, ℕ, ◌-◌, ◌↔◌, List, [], ◌∷◌, get_or, is_ok, Ok, Err, Decides, Result, sym, refl, ap, ◌∙◌, subst, ap₂, inl, inr, ⊎_elim, arith}
+use Rattle.std.proofs.Common.{◌≡◌, ℕ, ◌-◌, ◌↔◌, List, [], ◌∷◌, get_or, is_ok, Err, Decides, Result, sym, refl, ap, ◌∙◌, subst, ap₂, inl, inr, ⊎_elim, arith}
 use Rattle.std.proofs.lemmas.Bool.{cases_lt, false≢true}
 use Rattle.logic.specs.Formulas.{Vocabulary}
 use Rattle.calculus.specs.declared.step.Step.{Step}
@@ -58,10 +58,4 @@ module _ (m : Meaning) (v : Vocabulary) (xs : List Step) (hs : List ℕ) where
     refused e f = (
       (λ h. absurd (false≢true h), λ r. absurd (not_right e f r)),
       λ d. (λ h. let same : e ≡ d = cc in subst (λ (k : Refusal). FirstFault k m v xs hs) same f, λ g. ap Err (one_refusal e d f g)),
-    )
-
-    pub accepted : (s : S) → RightDerivation m v xs hs → Verdict (Ok s)
-    accepted s r = (
-      (λ _. r, λ _. refl),
-      λ d. (λ h. let z : ◌≡◌ {A = ℕ} 0 1 = cc in absurd (omega arith), λ g. absurd (not_right d g r)),
     )

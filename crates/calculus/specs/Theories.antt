@@ -1,5 +1,6 @@
 -- What a theory is: the rules that it knows, how many premises each takes, and its instances.
-use Rattle.std.specs.Prelude.{◌≡◌, ℕ, ◌≤◌, Bool, false, cond, ◌||◌, List, MatchBool}
+use Rattle.std.specs.Prelude.{◌≡◌, ℕ, ◌≤◌, Bool, false, cond, ◌||◌, List, Option, MatchBool}
+use Rattle.std.specs.Bool.{then_some}
 use Rattle.logic.specs.Formulas.{Vocabulary, WellFormed}
 use Rattle.std.specs.List.{AllByRecursion}
 use Rattle.logic.specs.Meanings.{Sequent as Seq, Valid}
@@ -9,6 +10,10 @@ pub record Meaning : Type 1 where
   pub known : ℕ → Bool
   pub arity : ℕ → ℕ
   pub instance : Vocabulary → Step → Seq → List Seq → Type 0
+
+-- how many premises a rule takes, if it is known
+abbrev pub premises : Meaning → ℕ → Option ℕ
+premises m r = then_some (m.known r) (m.arity r)
 
 -- where all the premises of an instance are valid, so is its sequent
 abbrev pub Sound : Meaning → Type 0

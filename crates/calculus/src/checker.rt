@@ -1,11 +1,11 @@
 // The checker: one function for every theory. Each step is judged against earlier ones.
-ghost use Rattle.std.specs.Prelude.{◌≡◌, ℕ, ◌<◌, ◌↔◌, length, is_ok, IfOk, Err, Decides, MatchOption, MatchResult};
+ghost use Rattle.std.specs.Prelude.{◌≡◌, ℕ, ◌<◌, ◌↔◌, length, is_ok, IfOk, Err, Decides, MatchResult};
 ghost use Rattle.logic.specs.Meanings.{Valid};
 ghost use Rattle.vocabulary.specs.View.{model};
 ghost use Rattle.calculus.specs.Derivations.{at, root, sequent, Earlier, Fails, FirstFault, InRange, Judged, Right, RightBelow, RightDerivation, Shaped, Sized, Unshaped};
 ghost use Rattle.calculus.specs.Model.{seq};
 
-use crate::predicates::{all_predicates, is_predicate};
+use crate::predicates::all_predicates;
 use crate::refusal::{Fault, Refusal};
 use crate::sequent::Sequent;
 use crate::step::Step;
@@ -16,117 +16,101 @@ const MAX_STEPS: usize = 256;
 
 const MAX_HYPOTHESES: usize = 4096;
 
-fn is_sized(steps: &[Step], list: &[u16]) -> bool
-    ensures { Decides result (Sized steps.now list.now) }
-{
-    (steps.len() > 0) & (steps.len() <= MAX_STEPS) & (list.len() <= MAX_HYPOTHESES)
+// The steps of a derivation over a vocabulary, and the list of which the hypotheses of each are a part.
+#[derive(Clone, Copy)]
+struct Derivation<'a> {
+    vocabulary: &'a Vocabulary,
+    steps: &'a [Step],
+    list: &'a [u16],
 }
 
-fn in_range(list: &[u16], step: &Step) -> bool
-    ensures { Decides result (InRange list.now step.now) }
-{
-    (step.start as usize + step.count as usize <= list.len()) & (step.count <= 16)
-}
+impl Derivation<'_> {
+    fn is_sized(&self) -> bool
+        ensures { Decides result (Sized self.now.steps.now self.now.list.now) }
+    {
+        !self.steps.is_empty() && self.steps.len() <= MAX_STEPS && self.list.len() <= MAX_HYPOTHESES
+    }
 
-// The sequent of a step, or why it has none.
-fn sequent_of(v: &Vocabulary, list: &[u16], step: &Step) -> Result<Sequent, Fault>
-    ensures { MatchResult result (λ s. InRange list.now step.now × Shaped (model v.now) list.now step.now × (seq s ≡ sequent list.now step.now)) (λ f. Unshaped f (model v.now) list.now step.now) }
-{
-    if !in_range(list, step) {
-        return Err(Fault::Range);
+    fn in_range(&self, step: &Step) -> bool
+        ensures { Decides result (InRange self.now.list.now step.now) }
+    {
+        usize::from(step.start) + usize::from(step.count) <= self.list.len() && step.count <= 16
     }
-    let start = step.start as usize;
-    let count = step.count as usize;
-    let own = &list[start..start + count];
-    let Some(s) = Sequent::new(step.goal, own) else {
-        return Err(Fault::NotASequent);
-    };
-    if !all_predicates(v, own) {
-        return Err(Fault::NotASequent);
-    }
-    if !is_predicate(v, step.goal) {
-        return Err(Fault::NotASequent);
-    }
-    Ok(s)
-}
 
-// The sequent of the step at j, which is known to have one.
-fn sequent_at(v: &Vocabulary, steps: &[Step], list: &[u16], j: usize) -> Sequent
-    requires within { j < length steps.now }
-    requires range { InRange list.now (at steps.now j) }
-    requires shaped { Shaped (model v.now) list.now (at steps.now j) }
-    ensures { seq result ≡ sequent list.now (at steps.now j) }
-{
-    match sequent_of(v, list, &steps[j]) {
-        Ok(s) => s,
-        Err(_) => unreachable(),
+    // The sequent of a step, or why it has none.
+    fn sequent_of(&self, step: &Step) -> Result<Sequent, Fault>
+        ensures { MatchResult result (λ s. InRange self.now.list.now step.now × Shaped (model self.now.vocabulary.now) self.now.list.now step.now × (seq s ≡ sequent self.now.list.now step.now)) (λ f. Unshaped f (model self.now.vocabulary.now) self.now.list.now step.now) }
+    {
+        if !self.in_range(step) {
+            return Err(Fault::Range);
+        }
+        let start = usize::from(step.start);
+        let own = &self.list[start..start + usize::from(step.count)];
+        let sequent = Sequent::new(step.goal, own).ok_or(Fault::NotASequent)?;
+        if !all_predicates(self.vocabulary, own) || !self.vocabulary.is_predicate(step.goal) {
+            return Err(Fault::NotASequent);
+        }
+        Ok(sequent)
     }
-}
 
-// Whether the step at i is an instance, where it passes all checks before that.
-fn is_judged<T: Theory>(
-    theory: &T,
-    v: &Vocabulary,
-    steps: &[Step],
-    list: &[u16],
-    i: usize,
-    s: &Sequent,
-) -> bool
-    requires within { i < length steps.now }
-    requires before { RightBelow (T.meaning theory.now) (model v.now) steps.now list.now i }
-    requires own { seq s.now ≡ sequent list.now (at steps.now i) }
-    requires earlier { Earlier ((T.meaning theory.now).arity (at steps.now i).rule) i (at steps.now i) }
-    ensures { Decides result (Judged (T.meaning theory.now) (model v.now) steps.now list.now (at steps.now i)) }
-{
-    let step = steps[i];
-    let n = theory.premises(step.rule);
-    if n == 0 {
-        return theory.is_instance(v, &step, s, &[]);
+    // The sequent of the step at j, which is known to have one.
+    fn sequent_at(&self, j: usize) -> Sequent
+        requires within { j < length self.now.steps.now }
+        requires range { InRange self.now.list.now (at self.now.steps.now j) }
+        requires shaped { Shaped (model self.now.vocabulary.now) self.now.list.now (at self.now.steps.now j) }
+        ensures { seq result ≡ sequent self.now.list.now (at self.now.steps.now j) }
+    {
+        self.sequent_of(&self.steps[j]).unwrap()
     }
-    let p = sequent_at(v, steps, list, step.first as usize);
-    if n == 1 {
-        return theory.is_instance(v, &step, s, &[p]);
+
+    // Whether the step at i, whose rule takes n premises, is an instance, where it passes all checks before that.
+    fn is_judged<T: Theory>(&self, theory: &T, i: usize, n: u8, conclusion: &Sequent) -> bool
+        requires within { i < length self.now.steps.now }
+        requires before { RightBelow (T.meaning theory.now) (model self.now.vocabulary.now) self.now.steps.now self.now.list.now i }
+        requires own { seq conclusion.now ≡ sequent self.now.list.now (at self.now.steps.now i) }
+        requires count { n ≡ (T.meaning theory.now).arity (at self.now.steps.now i).rule }
+        requires earlier { Earlier n i (at self.now.steps.now i) }
+        ensures { Decides result (Judged (T.meaning theory.now) (model self.now.vocabulary.now) self.now.steps.now self.now.list.now (at self.now.steps.now i)) }
+    {
+        let step = self.steps[i];
+        match n {
+            0 => theory.is_instance(self.vocabulary, &step, conclusion, &[]),
+            1 => {
+                let p = self.sequent_at(usize::from(step.first));
+                theory.is_instance(self.vocabulary, &step, conclusion, &[p])
+            }
+            _ => {
+                let p = self.sequent_at(usize::from(step.first));
+                let q = self.sequent_at(usize::from(step.second));
+                theory.is_instance(self.vocabulary, &step, conclusion, &[p, q])
+            }
+        }
     }
-    let q = sequent_at(v, steps, list, step.second as usize);
-    theory.is_instance(v, &step, s, &[p, q])
+
+    // The first fault of the step at i, where all steps before it are right.
+    fn test<T: Theory>(&self, theory: &T, i: usize) -> Result<(), Fault>
+        requires within { i < length self.now.steps.now }
+        requires before { RightBelow (T.meaning theory.now) (model self.now.vocabulary.now) self.now.steps.now self.now.list.now i }
+        ensures { MatchResult result (λ _. Right (T.meaning theory.now) (model self.now.vocabulary.now) self.now.steps.now self.now.list.now i (at self.now.steps.now i)) (λ f. Fails f (T.meaning theory.now) (model self.now.vocabulary.now) self.now.steps.now self.now.list.now i (at self.now.steps.now i)) }
+    {
+        let step = self.steps[i];
+        let sequent = self.sequent_of(&step)?;
+        let n = theory.premises(step.rule).ok_or(Fault::UnknownRule)?;
+        if !are_earlier(n, i, &step) {
+            return Err(Fault::LatePremise);
+        }
+        if !self.is_judged(theory, i, n, &sequent) {
+            return Err(Fault::NoInstance);
+        }
+        Ok(())
+    }
 }
 
 // Whether the premises that the rule of the step at i takes are earlier.
 fn are_earlier(n: u8, i: usize, step: &Step) -> bool
     ensures { Decides result (Earlier n i step.now) }
 {
-    let first = (n == 0) | (usize::from(step.first) < i);
-    let second = (n < 2) | (usize::from(step.second) < i);
-    first & second
-}
-
-// The first fault of the step at i, where all steps before it are right.
-fn fault_at<T: Theory>(
-    theory: &T,
-    v: &Vocabulary,
-    steps: &[Step],
-    list: &[u16],
-    i: usize,
-) -> Option<Fault>
-    requires within { i < length steps.now }
-    requires before { RightBelow (T.meaning theory.now) (model v.now) steps.now list.now i }
-    ensures { MatchOption result (Right (T.meaning theory.now) (model v.now) steps.now list.now i (at steps.now i)) (λ f. Fails f (T.meaning theory.now) (model v.now) steps.now list.now i (at steps.now i)) }
-{
-    let step = steps[i];
-    let s = match sequent_of(v, list, &step) {
-        Ok(s) => s,
-        Err(f) => return Some(f),
-    };
-    if !theory.knows(step.rule) {
-        return Some(Fault::UnknownRule);
-    }
-    if !are_earlier(theory.premises(step.rule), i, &step) {
-        return Some(Fault::LatePremise);
-    }
-    if !is_judged(theory, v, steps, list, i, &s) {
-        return Some(Fault::NoInstance);
-    }
-    None
+    (n == 0 || usize::from(step.first) < i) && (n < 2 || usize::from(step.second) < i)
 }
 
 // The root's sequent of a right derivation, which is valid; else the first fault.
@@ -141,17 +125,20 @@ pub fn check<T: Theory>(
     ensures root { IfOk result (λ s. seq s ≡ root steps.now list.now) }
     ensures valid { IfOk result (λ s. Valid (model v.now) (seq s)) }
 {
-    if !is_sized(steps, list) {
-        return Err(Refusal {
-            fault: Fault::Size,
-            step: 0,
-        });
+    let derivation = Derivation {
+        vocabulary: v,
+        steps,
+        list,
+    };
+    if !derivation.is_sized() {
+        return Err(Refusal::SIZE);
     }
+    // A step is judged by its place, which its premises are before and a refusal names; the steps alone would not do.
     for i in 0..steps.len() {
-        if let Some(fault) = fault_at(theory, v, steps, list, i) {
-            let step = i as u16;
-            return Err(Refusal { fault, step });
-        }
+        let step = i as u16;
+        derivation
+            .test(theory, i)
+            .map_err(|fault| Refusal { fault, step })?;
     }
-    Ok(sequent_at(v, steps, list, steps.len() - 1))
+    Ok(derivation.sequent_at(steps.len() - 1))
 }

@@ -8,12 +8,7 @@ use crate::sequent::Sequent;
 pub fn rises(list: &[u16]) -> bool
     ensures { Decides result (Rising list.now) }
 {
-    for k in 1..list.len() {
-        if list[k - 1] >= list[k] {
-            return false;
-        }
-    }
-    true
+    list.is_sorted_by(|a, b| a < b)
 }
 
 impl Sequent {
@@ -21,17 +16,12 @@ impl Sequent {
     pub fn new(goal: u16, list: &[u16]) -> Option<Sequent>
         ensures { MatchOption result ((length list.now ≤ 16) × Rising list.now → ⊥) (λ s. (length list.now ≤ 16) × Rising list.now × (seq s ≡ record { goal = goal; hypotheses = list.now })) }
     {
-        if list.len() > 16 {
+        if list.len() > 16 || !rises(list) {
             return None;
         }
-        if !rises(list) {
-            return None;
-        }
-        let mut hypotheses = [0; 16];
         let count = list.len();
-        for i in 0..count {
-            hypotheses[i] = list[i];
-        }
+        let mut hypotheses = [0; 16];
+        hypotheses[..count].copy_from_slice(list);
         Some(Sequent {
             goal,
             hypotheses,
@@ -48,6 +38,6 @@ impl Sequent {
     pub fn hypotheses(&self) -> &[u16]
         ensures { result.now ≡ (seq self.now).hypotheses }
     {
-        &self.hypotheses[0..self.count]
+        &self.hypotheses[..self.count]
     }
 }

@@ -6,19 +6,8 @@ ghost use Rattle.vocabulary.specs.View.{model};
 
 use vocabulary::store::Vocabulary;
 
-pub(crate) fn is_predicate(v: &Vocabulary, n: u16) -> bool
-    ensures { Decides result (Predicate (model v.now) n) }
-{
-    v.is_predicate(n)
-}
-
 pub(crate) fn all_predicates(v: &Vocabulary, list: &[u16]) -> bool
     ensures { Decides result (AllByRecursion (Predicate (model v.now)) list.now) }
 {
-    for p in list {
-        if !is_predicate(v, *p) {
-            return false;
-        }
-    }
-    true
+    list.iter().all(|p| v.is_predicate(*p))
 }

@@ -22,10 +22,18 @@ pub struct Refusal {
 }
 
 impl Refusal {
-    pub fn notice(self) -> Notice
-        ensures { result ≡ notice self }
-    {
-        let number = match self.fault {
+    // Sizes that no derivation may have.
+    pub const SIZE: Refusal = Refusal {
+        fault: Fault::Size,
+        step: 0,
+    };
+}
+
+impl From<Refusal> for Notice {
+    ghost from_gives = { λ refusal n. n ≡ notice refusal };
+
+    fn from(refusal: Refusal) -> Notice {
+        let number = match refusal.fault {
             Fault::Size => 20,
             Fault::Range => 21,
             Fault::NotASequent => 22,
@@ -36,7 +44,7 @@ impl Refusal {
         Notice {
             number,
             layer: Layer::Derivation,
-            place: self.step,
+            place: refusal.step,
         }
     }
 }

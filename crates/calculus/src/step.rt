@@ -1,4 +1,5 @@
 // One step of a derivation.
+// The rule is a number and no enum, since any theory may know rules of its own.
 #[derive(Clone, Copy, PartialEq, Eq, Debug)]
 pub struct Step {
     pub rule: u16,

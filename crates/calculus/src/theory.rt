@@ -1,7 +1,7 @@
 ghost use Rattle.std.specs.Prelude.{◌≡◌, Decides};
 ghost use Rattle.vocabulary.specs.View.{model};
 ghost use Rattle.calculus.specs.Model.{seq, seqs};
-ghost use Rattle.calculus.specs.Theories.{Meaning, Sound, Regular, joined};
+ghost use Rattle.calculus.specs.Theories.{Meaning, Sound, Regular, joined, premises};
 ghost use Rattle.calculus.specs.Joins.{joined_sound, joined_regular};
 
 use crate::sequent::Sequent;
@@ -9,14 +9,13 @@ use crate::step::Step;
 use vocabulary::store::Vocabulary;
 
 // A theory: which rules it knows, and what their instances are.
+// The parameters of `is_instance` are no struct: theories of other crates are written to them.
 pub trait Theory {
     ghost meaning: { Self → Meaning };
 
-    fn knows(&self, rule: u16) -> bool
-        ensures { result ≡ (meaning self.now).known rule };
-
-    fn premises(&self, rule: u16) -> u8
-        ensures { result ≡ (meaning self.now).arity rule };
+    // How many premises a rule takes, if the theory knows it.
+    fn premises(&self, rule: u16) -> Option<u8>
+        ensures { result ≡ premises (meaning self.now) rule };
 
     fn is_instance(
         &self,
@@ -43,16 +42,8 @@ impl<F: Theory, S: Theory> Theory for Joined<F, S> {
 
     ghost regular = { λ t. joined_regular (F.meaning t.0) (S.meaning t.1) (F.regular t.0) (S.regular t.1) };
 
-    fn knows(&self, rule: u16) -> bool {
-        self.0.knows(rule) | self.1.knows(rule)
-    }
-
-    fn premises(&self, rule: u16) -> u8 {
-        if self.0.knows(rule) {
-            self.0.premises(rule)
-        } else {
-            self.1.premises(rule)
-        }
+    fn premises(&self, rule: u16) -> Option<u8> {
+        self.0.premises(rule).or(self.1.premises(rule))
     }
 
     fn is_instance(
@@ -62,7 +53,7 @@ impl<F: Theory, S: Theory> Theory for Joined<F, S> {
         sequent: &Sequent,
         premises: &[Sequent],
     ) -> bool {
-        if self.0.knows(step.rule) {
+        if self.0.premises(step.rule).is_some() {
             self.0.is_instance(v, step, sequent, premises)
         } else {
             self.1.is_instance(v, step, sequent, premises)

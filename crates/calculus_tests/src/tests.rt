@@ -1,6 +1,7 @@
 // The checker over the theory of this crate, alone and joined with itself.
 use crate::truth::TruthRule;
 use calculus::{Fault, Joined, Refusal, Sequent, Step, check as check_derivation};
+use formulas::refusals::Notice;
 use std::test::Fail;
 use vocabulary::store::Vocabulary;
 
@@ -56,6 +57,7 @@ fn own_theory(rt: HostRuntime) -> Result<(), Fail> {
     };
     let fault = Fault::NoInstance;
     assert_eq!(rt; refusal, Refusal { fault, step: 1 });
-    assert_eq!(rt; (refusal.notice().number, refusal.notice().place), (25, 1));
+    let notice = Notice::from(refusal);
+    assert_eq!(rt; (notice.number, notice.place), (25, 1));
     Ok(())
 }

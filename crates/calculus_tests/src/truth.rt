@@ -18,12 +18,8 @@ impl Theory for TruthRule {
 
     ghost regular = { λ t. truth_regular };
 
-    fn knows(&self, rule: u16) -> bool {
-        rule == 100
-    }
-
-    fn premises(&self, rule: u16) -> u8 {
-        0
+    fn premises(&self, rule: u16) -> Option<u8> {
+        (rule == 100).then_some(0)
     }
 
     fn is_instance(
@@ -33,13 +29,11 @@ impl Theory for TruthRule {
         sequent: &Sequent,
         premises: &[Sequent],
     ) -> bool {
-        let known = step.rule == 100;
-        let alone = premises.len() == 0;
         let top = Record {
             kind: Kind::True,
             a: 0,
             b: 0,
         };
-        known & alone & has_record(v, sequent.goal(), top)
+        step.rule == 100 && premises.is_empty() && has_record(v, sequent.goal(), top)
     }
 }

@@ -1,6 +1,8 @@
 -- A line is cut at its ending.
-use Rattle.std.proofs.Common.{◌≡◌, ℕ, false, ◌||◌, [], ◌∷◌, ◌++◌, length, sym, refl, ap, ◌∙◌, arith, length-append}
+use Rattle.std.proofs.Common.{◌≡◌, ℕ, false, ◌||◌, [], ◌∷◌, ◌++◌, length, Some, None, Option, sym, refl, ap, ◌∙◌, arith, length-append}
+use Rattle.std.specs.Option.{MatchOption, unwrap_or}
 use Rattle.std.specs.Str.{bytes_eq}
+use denote.Ref.{Bor}
 use Rattle.std.proofs.lemmas.Slice.Eq.{bytes_eq-Decides}
 use Rattle.std.proofs.lemmas.List.{append_cancel_right}
 use Rattle.commands.specs.Commands.{is_ending, without_ending}
@@ -37,3 +39,8 @@ return_newline (b ∷ bs) =
     (λ e. omega (arith, ap length e, length-append (bs ++ 13 ∷ []) (10 ∷ []), length-append bs (13 ∷ [])))
     (λ e. omega (arith, ap length e, length-append (bs ++ 13 ∷ []) (10 ∷ []), length-append bs (13 ∷ [])))
     (return_newline bs)
+
+-- what is left before a newline, a carriage return before it left out
+pub without_newline : (line : Bytes) (text : Bor Bytes) (o : Option (Bor Bytes)) → line ≡ text.now ++ 10 ∷ [] → MatchOption o ((front : Bytes) → text.now ≡ front ++ 13 ∷ [] → ⊥) (λ r. text.now ≡ r.now ++ 13 ∷ []) → (unwrap_or o text).now ≡ without_ending line
+without_newline line text None e h = sym (ap without_ending e ∙ newline text.now h)
+without_newline line text (Some r) e h = sym (ap without_ending (e ∙ ap (λ l. l ++ 10 ∷ []) h) ∙ return_newline r.now)

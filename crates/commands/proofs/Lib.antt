@@ -1,6 +1,6 @@
 pub mod Splitting
 pub mod Collecting
-pub mod Naming
 pub mod Ending
+pub mod Reading
 pub mod Writing
 pub mod Requests

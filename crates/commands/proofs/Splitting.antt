@@ -1,21 +1,17 @@
 -- How a text is cut into words, and how digits are read one by one.
-use Rattle.std.proofs.Common.{◌≡◌, ℕ, suc, ◌+◌, ◌-◌, ◌*◌, ◌^◌, ◌<◌, ◌≤◌, Bool, true, false, cond, eqb, List, [], ◌∷◌, length, get_or, take, drop, None, sym, refl, ap, ◌∙◌, subst, arith, le-ltb, eq-eqb, ne_eqb}
+use Rattle.std.proofs.Common.{◌≡◌, ℕ, suc, ◌+◌, ◌-◌, ◌*◌, ◌^◌, ◌<◌, ◌≤◌, Bool, true, false, cond, eqb, ltb, not, List, [], ◌∷◌, length, get_or, take, drop, None, sym, refl, ap, ◌∙◌, subst, arith, le-ltb, false-eqb}
 use Rattle.std.specs.Char.{is_ascii_digit}
-use Rattle.std.proofs.lemmas.List.{drop_more, drop_all}
+use Rattle.std.specs.List.{position, position_or_len}
+use Rattle.std.specs.Option.{unwrap_or}
+use Rattle.std.proofs.lemmas.Bool.{ltb-false}
+use Rattle.std.proofs.lemmas.List.{drop_more}
+use Rattle.std.proofs.lemmas.List.Recursion.{is_position_or_len}
+use Rattle.std.proofs.lemmas.List.Sums.{prefix_len-le-length}
 use Rattle.commands.specs.Words.{Bytes, lengthen, begin, words, after_spaces, word_length, read_digits, bounded, number}
 
 -- a way that a test chooses
 pub chosen : {A : Type 0} (t u : Bool) (x y : A) → t ≡ u → cond t x y ≡ cond u x y
 chosen t u x y e = ap (λ v. cond v x y) e
-
--- spaces in front
-pub past_space : (bs : Bytes) → 0 < length bs → get_or bs 0 0 ≡ 32 → after_spaces (drop 1 bs) ≡ after_spaces bs
-past_space [] l e = absurd (omega arith)
-past_space (b ∷ bs) l e = sym (chosen _ true _ _ (eq-eqb b 32 e))
-
-pub no_space : (bs : Bytes) → (0 < length bs → get_or bs 0 0 ≡ 32 → ⊥) → after_spaces bs ≡ bs
-no_space [] h = refl
-no_space (b ∷ bs) h = chosen _ false _ _ (ne_eqb b 32 (h (omega arith)))
 
 -- the words of a text that begins with a word
 begins : (b : ℕ) (bs : Bytes) → eqb b 32 ≡ false → words (b ∷ bs) ≡ begin b bs (words bs)
@@ -66,21 +62,29 @@ first_word (b ∷ bs) l =
     (λ e. let same : after_spaces (b ∷ bs) ≡ b ∷ bs = chosen _ false _ _ e in subst (Cut (b ∷ bs)) (sym same) (cut_word b bs e))
 
 -- how far a word goes
-pub word_ends : (bs : Bytes) (i : ℕ) → i < length bs → get_or bs i 0 ≡ 32 → word_length (drop i bs) ≡ 0
-word_ends bs i l e = ap word_length (drop_more bs i 0 l) ∙ chosen _ true _ _ (eq-eqb (get_or bs i 0) 32 e)
+word_length_is : (bs : Bytes) → word_length bs ≡ position_or_len (λ b. eqb b 32) bs
+word_length_is =
+    is_position_or_len word_length (λ b. eqb b 32) refl (λ b bs. let e : suc (word_length bs) ≡ 1 + word_length bs = omega arith in ap (cond (eqb b 32) 0) e)
 
-pub word_goes_on : (bs : Bytes) (i : ℕ) → i < length bs → (get_or bs i 0 ≡ 32 → ⊥) → word_length (drop i bs) ≡ suc (word_length (drop (i + 1) bs))
-word_goes_on bs i l e = ap word_length (drop_more bs i 0 l) ∙ chosen _ false _ _ (ne_eqb (get_or bs i 0) 32 e)
+pub before_space : (bs : Bytes) → unwrap_or (position (λ b. eqb b 32) bs) (length bs) ≡ word_length bs
+before_space bs =
+    let k = position_or_len (λ b. eqb b 32) bs in
+    let within : k ≤ length bs = prefix_len-le-length (λ b. not (eqb b 32)) bs in
+    by_test (ltb k (length bs))
+    (λ t. ap (λ o. unwrap_or o (length bs)) (chosen _ true _ _ t) ∙ sym (word_length_is bs))
+    (λ t. ap (λ o. unwrap_or o (length bs)) (chosen _ false _ _ t) ∙ (let e : length bs ≡ k = omega (arith, ltb-false k (length bs) t) in e) ∙ sym (word_length_is bs))
 
-pub word_at_end : (bs : Bytes) (i : ℕ) → length bs ≤ i → word_length (drop i bs) ≡ 0
-word_at_end bs i l = ap word_length (drop_all i bs l)
+-- a text is cut before the first space after its first word
+pub cut_there : (bs text : Bytes) (k : ℕ) (w rest : Bytes) → text ≡ after_spaces bs → false ≡ eqb (length text) 0 → k ≡ unwrap_or (position (λ b. eqb b 32) text) (length text) → w ≡ take k text → rest ≡ drop k text → words bs ≡ w ∷ words rest
+cut_there bs text k w rest e f g h i =
+    let some : 0 < length text = omega (arith, false-eqb (length text) 0 f) in
+    let cut : Cut bs text = subst (Cut bs) (sym e) (first_word bs (subst (λ t. 0 < length t) e some)) in
+    let value : k ≡ word_length text = g ∙ before_space text in
+    cc
 
 -- digits
 pub digit_more : (bs : Bytes) (n i : ℕ) → i < length bs → is_ascii_digit (get_or bs i 0) ≡ true → read_digits n (drop i bs) ≡ read_digits (n * 10 + (get_or bs i 0 - 48)) (drop (i + 1) bs)
 digit_more bs n i l e = ap (read_digits n) (drop_more bs i 0 l) ∙ chosen _ true _ _ e
-
-pub no_digit : (bs : Bytes) (n i : ℕ) → i < length bs → is_ascii_digit (get_or bs i 0) ≡ false → read_digits n (drop i bs) ≡ None
-no_digit bs n i l e = ap (read_digits n) (drop_more bs i 0 l) ∙ chosen _ false _ _ e
 
 -- more digits make no smaller number
 pub too_large : (bits n : ℕ) (bs : Bytes) → 2 ^ bits ≤ n → bounded bits (read_digits n bs) ≡ None
@@ -93,6 +97,3 @@ too_large bits n (b ∷ bs) l =
 pub some_number : (bits : ℕ) (bs : Bytes) → 0 < length bs → number bits bs ≡ bounded bits (read_digits 0 bs)
 some_number bits [] l = absurd (omega arith)
 some_number bits (b ∷ bs) l = refl
-
-pub cut_at : (bs text : Bytes) (k : ℕ) (w rest : Bytes) → Cut bs text → k ≡ word_length text → w ≡ take k text → rest ≡ drop k text → words bs ≡ w ∷ words rest
-cut_at bs text k w rest cut e f b = cc

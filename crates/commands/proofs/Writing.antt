@@ -8,13 +8,12 @@ use Rattle.std.proofs.lemmas.Str.Parse.{IsNumeralModel, numerals_by_fold, tells_
 use Rattle.std.proofs.lemmas.Fmt.{decimal_nonempty, digits_decimal, digits_value-decimal}
 use Rattle.commands.specs.declared.command.Call.TheVariants as calls
 use Rattle.commands.specs.declared.command.Command.TheVariants as commands
-use Rattle.commands.specs.declared.command.CallVerb.TheVariants.{Carrier, Product, Variable, Set, Formula, Free, Substitution, Give, Entry, Predicate}
 use Rattle.commands.specs.declared.command.HoldCall.TheVariants.{Preview, Lift, Withdraw}
-use Rattle.commands.specs.declared.command.Verb.{Verb}
-use Rattle.commands.specs.declared.command.Verb.TheVariants.{Book, Use, Call, Step, Check, Hold, HoldCall}
-use Rattle.commands.specs.Commands.{Request, asks, append, draw, request, request_words, understood, listed, of_verb, verb_named, list_word, conclude_word, text_of, word_of, spaced, bits, count, with_numbers, step_numbers, Within, ReadsBack, ListsReadBack}
+use Rattle.commands.specs.Verbs.{Carrier, Product, Variable, Set, Formula, Free, Substitution, Give, Entry, Predicate, Verb, Book, Use, Call, Step, Check, Hold, WithHold}
+use Rattle.commands.specs.Commands.{Request, asks, append, draw, request, request_words, understood, listed, of_verb, list_word, conclude_word, text_of, word_of, spaced, bits, count, with_numbers, step_numbers, Within, ReadsBack, ListsReadBack}
 use Rattle.commands.specs.Words.{Bytes, words, lengthen, read_digits, bounded, number, numbers, both, all_numbers}
 use Rattle.commands.proofs.Splitting.{chosen}
+use Rattle.commands.proofs.Reading.{known}
 
 -- the number that digits write after those of n
 abbrev value_after : ℕ → Bytes → ℕ
@@ -26,7 +25,7 @@ own = numerals_by_fold _ tells_all_ascii_digits value_after (search rules)
 
 both_true : (s t : Bool) → (s && t) ≡ true → (s ≡ true) × (t ≡ true)
 both_true true t e = (refl, e)
-both_true false t e = let z : ◌≡◌ {A = ℕ} 0 1 = cc in absurd (omega arith)
+both_true false t e = cc
 
 digits_read : (n : ℕ) (ds : Bytes) → all_ascii_digits ds ≡ true → read_digits n ds ≡ Some (value_after n ds)
 digits_read n [] e = refl
@@ -109,9 +108,9 @@ some_word (Call Predicate) = omega arith
 some_word Step = omega arith
 some_word Check = omega arith
 some_word Hold = omega arith
-some_word (HoldCall Preview) = omega arith
-some_word (HoldCall Lift) = omega arith
-some_word (HoldCall Withdraw) = omega arith
+some_word (WithHold Preview) = omega arith
+some_word (WithHold Lift) = omega arith
+some_word (WithHold Withdraw) = omega arith
 
 solid_word : (v : Verb) → Solid (word_of v)
 solid_word Book = search rules
@@ -129,9 +128,9 @@ solid_word (Call Predicate) = search rules
 solid_word Step = search rules
 solid_word Check = search rules
 solid_word Hold = search rules
-solid_word (HoldCall Preview) = search rules
-solid_word (HoldCall Lift) = search rules
-solid_word (HoldCall Withdraw) = search rules
+solid_word (WithHold Preview) = search rules
+solid_word (WithHold Lift) = search rules
+solid_word (WithHold Withdraw) = search rules
 
 text_words : (w : Bytes) (ns : List ℕ) → 0 < length w → Solid w → Small ns → words (w ++ spaced ns) ≡ w ∷ map decimal ns
 text_words w ns l h s = digits_then w (spaced ns) l h (spaced_apart ns) ∙ ap (λ ws. w ∷ ws) (spaced_words ns s)
@@ -152,9 +151,9 @@ first_read (Call Predicate) ns = refl
 first_read Step ns = refl
 first_read Check ns = refl
 first_read Hold ns = refl
-first_read (HoldCall Preview) ns = refl
-first_read (HoldCall Lift) ns = refl
-first_read (HoldCall Withdraw) ns = refl
+first_read (WithHold Preview) ns = refl
+first_read (WithHold Lift) ns = refl
+first_read (WithHold Withdraw) ns = refl
 
 no_list : (v : Verb) → (bytes_eq (word_of v) list_word ≡ false) × (bytes_eq (word_of v) conclude_word ≡ false)
 no_list Book = (refl, refl)
@@ -172,29 +171,9 @@ no_list (Call Predicate) = (refl, refl)
 no_list Step = (refl, refl)
 no_list Check = (refl, refl)
 no_list Hold = (refl, refl)
-no_list (HoldCall Preview) = (refl, refl)
-no_list (HoldCall Lift) = (refl, refl)
-no_list (HoldCall Withdraw) = (refl, refl)
-
-known : (v : Verb) → verb_named (word_of v) ≡ Some v
-known Book = refl
-known Use = refl
-known (Call Carrier) = refl
-known (Call Product) = refl
-known (Call Variable) = refl
-known (Call Set) = refl
-known (Call Formula) = refl
-known (Call Free) = refl
-known (Call Substitution) = refl
-known (Call Give) = refl
-known (Call Entry) = refl
-known (Call Predicate) = refl
-known Step = refl
-known Check = refl
-known Hold = refl
-known (HoldCall Preview) = refl
-known (HoldCall Lift) = refl
-known (HoldCall Withdraw) = refl
+no_list (WithHold Preview) = (refl, refl)
+no_list (WithHold Lift) = (refl, refl)
+no_list (WithHold Withdraw) = (refl, refl)
 
 few_bits : (v : Verb) → 2 ^ bits v ≤ 2 ^ 64
 few_bits Book = omega arith
@@ -203,7 +182,7 @@ few_bits (Call v) = omega arith
 few_bits Step = omega arith
 few_bits Check = omega arith
 few_bits Hold = omega arith
-few_bits (HoldCall d) = omega arith
+few_bits (WithHold d) = omega arith
 
 small : (k : ℕ) (ns : List ℕ) → 2 ^ k ≤ 2 ^ 64 → Within k ns → Small ns
 small k [] l h = tt
@@ -236,7 +215,7 @@ reads_back (commands.Call (calls.Predicate p)) h = read_verb (Call Predicate) (p
 reads_back (commands.Step x) h = read_verb Step (step_numbers x) refl h
 reads_back commands.Check h = read_verb Check [] refl h
 reads_back (commands.Hold e) h = read_verb Hold (e ∷ []) refl h
-reads_back (commands.HoldCall d k) h = read_verb (HoldCall d) (k ∷ []) refl h
+reads_back (commands.HoldCall d k) h = read_verb (WithHold d) (k ∷ []) refl h
 
 all_written : (asking : List ℕ → Request) (ns : List ℕ) → Within 16 ns → Small ns → listed asking (all_numbers (map decimal ns)) ≡ asking ns
 all_written asking ns h s =

@@ -5,16 +5,14 @@ use Rattle.std.specs.Str.{bytes_eq}
 use Rattle.calculus.specs.declared.step.Step.{Step}
 use Rattle.commands.specs.declared.command.Call.{Call}
 use Rattle.commands.specs.declared.command.Call.TheVariants as calls
-use Rattle.commands.specs.declared.command.CallVerb.{CallVerb}
-use Rattle.commands.specs.declared.command.CallVerb.TheVariants.{Carrier, Product, Variable, Set, Formula, Free, Substitution, Give, Entry, Predicate}
 use Rattle.commands.specs.declared.command.Command.{Command}
 use Rattle.commands.specs.declared.command.Command.TheVariants as commands
 use Rattle.commands.specs.declared.command.HoldCall.{HoldCall}
 use Rattle.commands.specs.declared.command.HoldCall.TheVariants.{Preview, Lift, Withdraw}
 use Rattle.commands.specs.declared.command.Line.{Line}
 use Rattle.commands.specs.declared.command.Line.TheVariants as lines
-use Rattle.commands.specs.declared.command.Verb.{Verb}
-use Rattle.commands.specs.declared.command.Verb.TheVariants as verb
+use Rattle.commands.specs.Verbs.{CallVerb, Carrier, Product, Variable, Set, Formula, Free, Substitution, Give, Entry, Predicate, Verb}
+use Rattle.commands.specs.Verbs as verb
 use Rattle.commands.specs.Words.{Bytes, words, numbers, all_numbers}
 
 -- what a line asks: nothing, what cannot be understood, a command, numbers to append to the hypotheses,
@@ -59,7 +57,7 @@ word_of (verb.Call v) = call_word v
 word_of verb.Step = codes "step"
 word_of verb.Check = codes "check"
 word_of verb.Hold = codes "hold"
-word_of (verb.HoldCall d) = hold_call_word d
+word_of (verb.WithHold d) = hold_call_word d
 
 abbrev pub verbs : List Verb
 verbs =
@@ -67,7 +65,7 @@ verbs =
     ∷ verb.Call Carrier ∷ verb.Call Product ∷ verb.Call Variable ∷ verb.Call Set ∷ verb.Call Formula ∷ verb.Call Free ∷ verb.Call Substitution
     ∷ verb.Call Give ∷ verb.Call Entry ∷ verb.Call Predicate
     ∷ verb.Step ∷ verb.Check
-    ∷ verb.Hold ∷ verb.HoldCall Preview ∷ verb.HoldCall Lift ∷ verb.HoldCall Withdraw ∷ []
+    ∷ verb.Hold ∷ verb.WithHold Preview ∷ verb.WithHold Lift ∷ verb.WithHold Withdraw ∷ []
 
 abbrev pub one_named : Bytes → List Verb → Option Verb
 one_named w [] = None
@@ -96,7 +94,7 @@ count (verb.Call v) = call_count v
 count verb.Step = 9
 count verb.Check = 0
 count verb.Hold = 1
-count (verb.HoldCall d) = 1
+count (verb.WithHold d) = 1
 
 -- how many bits each of them has
 abbrev pub bits : Verb → ℕ
@@ -106,7 +104,7 @@ bits (verb.Call v) = 16
 bits verb.Step = 16
 bits verb.Check = 16
 bits verb.Hold = 16
-bits (verb.HoldCall d) = 16
+bits (verb.WithHold d) = 16
 
 abbrev at : List ℕ → ℕ → ℕ
 at ns i = slice_index ns i
@@ -145,19 +143,13 @@ with_numbers (verb.Call v) ns = commands.Call (call_with v ns)
 with_numbers verb.Step ns = commands.Step (step_with ns)
 with_numbers verb.Check ns = commands.Check
 with_numbers verb.Hold ns = commands.Hold (at ns 0)
-with_numbers (verb.HoldCall d) ns = commands.HoldCall d (at ns 0)
-
-abbrev pub call_of : CallVerb → List Bytes → Option Call
-call_of v ws = option_map (call_with v) (numbers 16 (call_count v) ws)
+with_numbers (verb.WithHold d) ns = commands.HoldCall d (at ns 0)
 
 abbrev pub step_of : List Bytes → Option Step
 step_of ws = option_map step_with (numbers 16 9 ws)
 
 abbrev pub command_of : Verb → List Bytes → Option Command
 command_of v ws = option_map (with_numbers v) (numbers (bits v) (count v) ws)
-
-abbrev pub only_number : List Bytes → Option ℕ
-only_number ws = option_map (λ ns. at ns 0) (numbers 32 1 ws)
 
 abbrev pub of_verb : Option Verb → List Bytes → Option Command
 of_verb None ws = None
@@ -249,7 +241,7 @@ verb_of (commands.Call c) = verb.Call (call_verb c)
 verb_of (commands.Step x) = verb.Step
 verb_of commands.Check = verb.Check
 verb_of (commands.Hold e) = verb.Hold
-verb_of (commands.HoldCall d h) = verb.HoldCall d
+verb_of (commands.HoldCall d h) = verb.WithHold d
 
 abbrev pub numbers_of : Command → List ℕ
 numbers_of (commands.Book n) = n ∷ []

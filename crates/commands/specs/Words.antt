@@ -1,5 +1,6 @@
 -- The words of a line, and the numbers that words write.
-use Rattle.std.specs.Prelude.{ℕ, zero, suc, ◌+◌, ◌-◌, ◌*◌, ◌^◌, cond, List, [], ◌∷◌, length, Some, None, Option, ◌==◌, nat_lt}
+use Rattle.std.specs.Prelude.{ℕ, zero, suc, ◌+◌, ◌-◌, ◌*◌, ◌^◌, cond, List, [], ◌∷◌, length, Some, None, Option, ◌==◌, nat_lt, slice_index}
+use Rattle.std.specs.Option.{option_map}
 use Rattle.std.specs.Char.{is_ascii_digit}
 
 abbrev pub Bytes : Type 0
@@ -56,6 +57,10 @@ numbers bits zero [] = Some []
 numbers bits zero (w ∷ ws) = None
 numbers bits (suc k) [] = None
 numbers bits (suc k) (w ∷ ws) = both (number bits w) (numbers bits k ws)
+
+-- the number of so many bits that the only word writes
+abbrev pub only_number : ℕ → List Bytes → Option ℕ
+only_number bits ws = option_map (λ ns. slice_index ns 0) (numbers bits 1 ws)
 
 -- the numbers of 16 bits that words write, if each writes one
 abbrev pub all_numbers : List Bytes → Option (List ℕ)

@@ -1,14 +1,14 @@
 // What a line of a script asks: a word, and then numbers in decimal, with spaces between them.
 ghost use Rattle.std.specs.Prelude.{◌≡◌, ◌∷◌, Some};
-ghost use Rattle.std.specs.Str.{bytes_eq};
 ghost use Rattle.commands.specs.Words.{words, all_numbers};
-ghost use Rattle.commands.specs.Commands.{call_word, word_of, hold_call_word, verb_named, command, only_number, call_of, step_of, command_of, list_line, without_ending, request, request_words, line_of, call_text, command_text};
+ghost use Rattle.commands.specs.Commands.{hold_call_word, command, step_of, list_line, without_ending, request, request_words, line_of, call_text, command_text};
 
-use crate::words::{are_numbers, next_word, number, numbers};
+use crate::words::{Words, are_numbers, numbers, only_number, only_short_number};
 use calculus::Step;
 use std::fmt;
 
-// A call on the current book, or a question to it.
+// A call on the current book, or a question to it. Each call has the word that a script has for it, those on the vocabulary among them:
+// under one variant of their own they would need a second match to be read and written.
 #[derive(Clone, Copy, PartialEq, Eq, Debug)]
 pub enum Call {
     Carrier,
@@ -42,7 +42,7 @@ pub enum Command {
     HoldCall(HoldCall, u16),
 }
 
-// What a line asks. A line of hypotheses or of citations is read for its numbers when it is run.
+// What a line asks. Reading takes no memory, so a line of hypotheses or of citations is read for its numbers when it is run.
 #[derive(Clone, Copy, PartialEq, Eq, Debug)]
 pub enum Line {
     Silent,
@@ -50,33 +50,6 @@ pub enum Line {
     Asks(Command),
     Hypotheses,
     Conclude,
-}
-
-// The word that a call begins with.
-#[derive(Clone, Copy)]
-enum CallVerb {
-    Carrier,
-    Product,
-    Variable,
-    Set,
-    Formula,
-    Free,
-    Substitution,
-    Give,
-    Entry,
-    Predicate,
-}
-
-// The word that a command begins with.
-#[derive(Clone, Copy)]
-enum Verb {
-    Book,
-    Use,
-    Call(CallVerb),
-    Step,
-    Check,
-    Hold,
-    HoldCall(HoldCall),
 }
 
 impl fmt::Display for Call {
@@ -130,168 +103,11 @@ impl fmt::Display for Command {
     }
 }
 
-impl HoldCall {
-    fn word(self) -> &'static [u8]
-        ensures { result.now ≡ hold_call_word self }
-    {
-        match self {
-            HoldCall::Preview => b"preview",
-            HoldCall::Lift => b"lift",
-            HoldCall::Withdraw => b"withdraw",
-        }
-    }
-}
-
-impl CallVerb {
-    fn word(self) -> &'static [u8]
-        ensures { result.now ≡ call_word self }
-    {
-        match self {
-            CallVerb::Carrier => b"carrier",
-            CallVerb::Product => b"product",
-            CallVerb::Variable => b"variable",
-            CallVerb::Set => b"set",
-            CallVerb::Formula => b"formula",
-            CallVerb::Free => b"free",
-            CallVerb::Substitution => b"substitution",
-            CallVerb::Give => b"give",
-            CallVerb::Entry => b"entry",
-            CallVerb::Predicate => b"predicate",
-        }
-    }
-
-    // The call that a verb makes with the numbers after it.
-    fn call(self, text: &[u8]) -> Option<Call>
-        ensures { result ≡ call_of self (words text.now) }
-    {
-        let call = match self {
-            CallVerb::Carrier => {
-                let [] = numbers::<0>(text)?;
-                Call::Carrier
-            }
-            CallVerb::Product => {
-                let [s, t] = numbers::<2>(text)?;
-                Call::Product(s, t)
-            }
-            CallVerb::Variable => {
-                let [t] = numbers::<1>(text)?;
-                Call::Variable(t)
-            }
-            CallVerb::Set => {
-                let [t] = numbers::<1>(text)?;
-                Call::Set(t)
-            }
-            CallVerb::Formula => {
-                let [kind, a, b] = numbers::<3>(text)?;
-                Call::Formula(kind, a, b)
-            }
-            CallVerb::Free => {
-                let [x, n] = numbers::<2>(text)?;
-                Call::Free(x, n)
-            }
-            CallVerb::Substitution => {
-                let [q, p, x, e] = numbers::<4>(text)?;
-                Call::Substitution(q, p, x, e)
-            }
-            CallVerb::Give => {
-                let [p] = numbers::<1>(text)?;
-                Call::Give(p)
-            }
-            CallVerb::Entry => {
-                let [e] = numbers::<1>(text)?;
-                Call::Entry(e)
-            }
-            CallVerb::Predicate => {
-                let [p] = numbers::<1>(text)?;
-                Call::Predicate(p)
-            }
-        };
-        Some(call)
-    }
-}
-
-impl Verb {
-    const ALL: [Verb; 18] = [
-        Verb::Book,
-        Verb::Use,
-        Verb::Call(CallVerb::Carrier),
-        Verb::Call(CallVerb::Product),
-        Verb::Call(CallVerb::Variable),
-        Verb::Call(CallVerb::Set),
-        Verb::Call(CallVerb::Formula),
-        Verb::Call(CallVerb::Free),
-        Verb::Call(CallVerb::Substitution),
-        Verb::Call(CallVerb::Give),
-        Verb::Call(CallVerb::Entry),
-        Verb::Call(CallVerb::Predicate),
-        Verb::Step,
-        Verb::Check,
-        Verb::Hold,
-        Verb::HoldCall(HoldCall::Preview),
-        Verb::HoldCall(HoldCall::Lift),
-        Verb::HoldCall(HoldCall::Withdraw),
-    ];
-
-    fn word(self) -> &'static [u8]
-        ensures { result.now ≡ word_of self }
-    {
-        match self {
-            Verb::Book => b"book",
-            Verb::Use => b"use",
-            Verb::Call(verb) => verb.word(),
-            Verb::Step => b"step",
-            Verb::Check => b"check",
-            Verb::Hold => b"hold",
-            Verb::HoldCall(call) => call.word(),
-        }
-    }
-
-    // The verb that a word is.
-    fn named(word: &[u8]) -> Option<Verb>
-        ensures { result ≡ verb_named word.now }
-    {
-        for verb in Verb::ALL {
-            if word == verb.word() {
-                return Some(verb);
-            }
-        }
-        None
-    }
-
-    // The command that a verb makes with the numbers after it.
-    fn command(self, text: &[u8]) -> Option<Command>
-        ensures { result ≡ command_of self (words text.now) }
-    {
-        let command = match self {
-            Verb::Book => Command::Book(only_number(text)?),
-            Verb::Use => {
-                let [k] = numbers::<1>(text)?;
-                Command::Use(k)
-            }
-            Verb::Call(verb) => Command::Call(verb.call(text)?),
-            Verb::Step => Command::Step(read_step(text)?),
-            Verb::Check => {
-                let [] = numbers::<0>(text)?;
-                Command::Check
-            }
-            Verb::Hold => {
-                let [e] = numbers::<1>(text)?;
-                Command::Hold(e)
-            }
-            Verb::HoldCall(call) => {
-                let [h] = numbers::<1>(text)?;
-                Command::HoldCall(call, h)
-            }
-        };
-        Some(command)
-    }
-}
-
 // The step that a text of nine numbers writes.
-fn read_step(text: &[u8]) -> Option<Step>
-    ensures { result ≡ step_of (words text.now) }
+fn read_step(rest: Words) -> Option<Step>
+    ensures { result ≡ step_of (words rest.entry.text.now) }
 {
-    let [rule, goal, start, count, first, second, a, b, c] = numbers::<9>(text)?;
+    let [rule, goal, start, count, first, second, a, b, c] = numbers::<9>(rest)?;
     Some(Step {
         rule,
         goal,
@@ -305,22 +121,46 @@ fn read_step(text: &[u8]) -> Option<Step>
     })
 }
 
-// The number of a text that has one word, a number of 32 bits.
-fn only_number(text: &[u8]) -> Option<u32>
-    ensures { result ≡ only_number (words text.now) }
+// The command that a first word and the words after it make.
+fn read_command(word: &[u8], mut rest: Words) -> Option<Command>
+    ensures { result ≡ command word.now (words rest.entry.text.now) }
 {
-    let (word, rest) = next_word(text)?;
-    match next_word(rest) {
-        Some(_) => None,
-        None => number(word),
+    match word {
+        b"book" => only_number(rest).map(Command::Book),
+        b"use" => only_short_number(rest).map(Command::Use),
+        b"carrier" => rest
+            .next()
+            .is_none()
+            .then_some(Command::Call(Call::Carrier)),
+        b"product" => {
+            let [s, t] = numbers::<2>(rest)?;
+            Some(Command::Call(Call::Product(s, t)))
+        }
+        b"variable" => only_short_number(rest).map(|t| Command::Call(Call::Variable(t))),
+        b"set" => only_short_number(rest).map(|t| Command::Call(Call::Set(t))),
+        b"formula" => {
+            let [kind, a, b] = numbers::<3>(rest)?;
+            Some(Command::Call(Call::Formula(kind, a, b)))
+        }
+        b"free" => {
+            let [x, n] = numbers::<2>(rest)?;
+            Some(Command::Call(Call::Free(x, n)))
+        }
+        b"substitution" => {
+            let [q, p, x, e] = numbers::<4>(rest)?;
+            Some(Command::Call(Call::Substitution(q, p, x, e)))
+        }
+        b"give" => only_short_number(rest).map(|p| Command::Call(Call::Give(p))),
+        b"entry" => only_short_number(rest).map(|e| Command::Call(Call::Entry(e))),
+        b"predicate" => only_short_number(rest).map(|p| Command::Call(Call::Predicate(p))),
+        b"step" => read_step(rest).map(Command::Step),
+        b"check" => rest.next().is_none().then_some(Command::Check),
+        b"hold" => only_short_number(rest).map(Command::Hold),
+        b"preview" => only_short_number(rest).map(|h| Command::HoldCall(HoldCall::Preview, h)),
+        b"lift" => only_short_number(rest).map(|h| Command::HoldCall(HoldCall::Lift, h)),
+        b"withdraw" => only_short_number(rest).map(|h| Command::HoldCall(HoldCall::Withdraw, h)),
+        _ => None,
     }
-}
-
-// The command of a first word and the text after it.
-fn read_command(word: &[u8], text: &[u8]) -> Option<Command>
-    ensures { result ≡ command word.now (words text.now) }
-{
-    Verb::named(word)?.command(text)
 }
 
 // A line without its ending: a newline, or a carriage return and a newline.
@@ -330,43 +170,28 @@ pub fn without_ending(line: &[u8]) -> &[u8]
     let Some(text) = line.strip_suffix(b"\n") else {
         return line;
     };
-    match text.strip_suffix(b"\r") {
-        Some(text) => text,
-        None => text,
-    }
-}
-
-// Whether a word is this one.
-fn is_word(word: &[u8], this: &[u8]) -> bool
-    ensures { result ≡ bytes_eq word.now this.now }
-{
-    word == this
+    text.strip_suffix(b"\r").unwrap_or(text)
 }
 
 // What a line of numbers asks, its first word left out.
-fn read_list(line: Line, text: &[u8]) -> Line
-    ensures { result ≡ list_line line (all_numbers (words text.now)) }
+fn read_list(asked: Line, rest: Words) -> Line
+    ensures { result ≡ list_line asked (all_numbers (words rest.entry.text.now)) }
 {
-    if are_numbers(text) {
-        line
+    if are_numbers(rest) {
+        asked
     } else {
         Line::NotUnderstood
     }
 }
 
-// What a first word and the text after it ask.
-fn read_words(word: &[u8], text: &[u8]) -> Line
-    ensures { result ≡ line_of (request_words (word.now ∷ words text.now)) }
+// What a first word and the words after it ask.
+fn read_words(word: &[u8], rest: Words) -> Line
+    ensures { result ≡ line_of (request_words (word.now ∷ words rest.entry.text.now)) }
 {
-    if is_word(word, b"hypotheses") {
-        return read_list(Line::Hypotheses, text);
-    }
-    if is_word(word, b"conclude") {
-        return read_list(Line::Conclude, text);
-    }
-    match read_command(word, text) {
-        Some(command) => Line::Asks(command),
-        None => Line::NotUnderstood,
+    match word {
+        b"hypotheses" => read_list(Line::Hypotheses, rest),
+        b"conclude" => read_list(Line::Conclude, rest),
+        _ => read_command(word, rest).map_or(Line::NotUnderstood, Line::Asks),
     }
 }
 
@@ -377,8 +202,9 @@ pub fn read_line(line: &[u8]) -> Line
     if let [b'#', ..] = line {
         return Line::Silent;
     }
-    match next_word(line) {
-        Some((word, rest)) => read_words(word, rest),
+    let mut rest = Words::new(line);
+    match rest.next() {
+        Some(word) => read_words(word, rest),
         None => Line::Silent,
     }
 }

@@ -1,7 +1,8 @@
 // The words of a text, and the numbers that they write.
-ghost use Rattle.std.specs.Prelude.{◌≡◌, ◌≤◌, [], ◌∷◌, length, is_some, IfOk, vec_items, MatchOption};
+ghost use Rattle.std.specs.Prelude.{◌≡◌, ◌==◌, position, is_some, IfOk, vec_items};
+ghost use Rattle.std.specs.Iterator.{YieldsFirstRef, item_count};
 ghost use Rattle.std.specs.Option.{option_map};
-ghost use Rattle.commands.specs.Words.{words, after_spaces, word_length, number, numbers, all_numbers, numbers_after};
+ghost use Rattle.commands.specs.Words.{words, after_spaces, number, only_number, numbers, all_numbers, numbers_after};
 
 use std::alloc::{AllocError, Global};
 
@@ -16,32 +17,48 @@ fn after_spaces(text: &[u8]) -> &[u8]
     rest
 }
 
-// How many bytes come before the first space.
-fn word_length(text: &[u8]) -> usize
-    ensures value { result ≡ word_length text.now }
-    ensures within { result ≤ length text.now }
+// Where the first space is.
+fn first_space(text: &[u8]) -> Option<usize>
+    ensures { result ≡ position (λ b. b == 32) text.now }
 {
-    for (i, b) in text.iter().enumerate() {
-        if *b == b' ' {
-            return i;
+    text.iter().position(|b| *b == b' ')
+}
+
+// The words of a text, one after another. A type of its own, since it is passed on: a chain of `split` and `filter` has no name that a
+// parameter could have.
+#[derive(Clone, Copy)]
+pub(crate) struct Words<'a> {
+    text: &'a [u8],
+}
+
+impl<'a> Words<'a> {
+    pub(crate) fn new(text: &'a [u8]) -> Words<'a>
+        ensures { words result.text.now ≡ words text.now }
+    {
+        Words { text }
+    }
+}
+
+impl<'a> Iterator for Words<'a> {
+    type Item = &'a [u8];
+
+    ghost next_gives = { YieldsFirstRef (λ s. words s.text.now) };
+
+    ghost remaining = { item_count (λ s. words s.text.now) };
+
+    fn next(&mut self) -> Option<&'a [u8]> {
+        let text = after_spaces(self.text);
+        if text.is_empty() {
+            return None;
         }
+        let (word, rest) = text.split_at(first_space(text).unwrap_or(text.len()));
+        self.text = rest;
+        Some(word)
     }
-    text.len()
 }
 
-// The first word of a text, and what comes after it.
-pub(crate) fn next_word(text: &[u8]) -> Option<(&[u8], &[u8])>
-    ensures { MatchOption result (words text.now ≡ []) (λ p. words text.now ≡ p.0.now ∷ words p.1.now) }
-{
-    let text = after_spaces(text);
-    if text.is_empty() {
-        return None;
-    }
-    Some(text.split_at(word_length(text)))
-}
-
-// The number that a word writes in decimal, if it has 32 bits.
-pub(crate) fn number(word: &[u8]) -> Option<u32>
+// The number that a word writes in decimal, if it has 32 bits. Not `parse`, which takes a sign and wants a text.
+fn number(word: &[u8]) -> Option<u32>
     ensures { result ≡ number 32 word.now }
 {
     if word.is_empty() {
@@ -61,68 +78,61 @@ pub(crate) fn number(word: &[u8]) -> Option<u32>
 fn short_number(word: &[u8]) -> Option<u16>
     ensures { result ≡ number 16 word.now }
 {
-    match number(word) {
-        Some(n) if n < 65536 => Some(n as u16),
-        _ => None,
-    }
+    u16::try_from(number(word)?).ok()
+}
+
+// The number of a text that has one word, a number of 32 bits.
+pub(crate) fn only_number(mut rest: Words) -> Option<u32>
+    ensures { result ≡ only_number 32 (words rest.entry.text.now) }
+{
+    let n = number(rest.next()?)?;
+    rest.next().is_none().then_some(n)
+}
+
+// The number of a text that has one word, a number of 16 bits. Not `numbers::<1>`: a closure that takes the array apart gets no proof.
+pub(crate) fn only_short_number(rest: Words) -> Option<u16>
+    ensures { result ≡ only_number 16 (words rest.entry.text.now) }
+{
+    u16::try_from(only_number(rest)?).ok()
 }
 
 // The numbers of a text that has N words, each a number of 16 bits.
-pub(crate) fn numbers<const N: usize>(text: &[u8]) -> Option<[u16; N]>
-    ensures { result ≡ numbers 16 N (words text.now) }
+pub(crate) fn numbers<const N: usize>(mut rest: Words) -> Option<[u16; N]>
+    ensures { result ≡ numbers 16 N (words rest.entry.text.now) }
 {
     let mut all = [0; N];
-    let mut rest = text;
     for n in all.iter_mut() {
-        let (word, after) = next_word(rest)?;
-        *n = short_number(word)?;
-        rest = after;
+        *n = short_number(rest.next()?)?;
     }
-    match next_word(rest) {
-        Some(_) => None,
-        None => Some(all),
-    }
+    rest.next().is_none().then_some(all)
 }
 
 // Whether each word of a text is a number of 16 bits.
-pub(crate) fn are_numbers(text: &[u8]) -> bool
-    ensures { result ≡ is_some (all_numbers (words text.now)) }
+pub(crate) fn are_numbers(mut rest: Words) -> bool
+    ensures { result ≡ is_some (all_numbers (words rest.entry.text.now)) }
 {
-    let mut rest = text;
-    while let Some((word, after)) = next_word(rest) {
-        if short_number(word).is_none() {
-            return false;
-        }
-        rest = after;
-    }
-    true
+    rest.all(|word| short_number(word).is_some())
 }
 
 // The numbers of a text whose words are all numbers of 16 bits.
-pub(crate) fn all_numbers(heap: Global, text: &[u8]) -> Result<Option<Vec<u16>>, AllocError>
-    ensures { IfOk result (λ ns. option_map vec_items ns ≡ all_numbers (words text.now)) }
+fn all_numbers(alloc: Global, rest: Words) -> Result<Option<Vec<u16>>, AllocError>
+    ensures { IfOk result (λ ns. option_map vec_items ns ≡ all_numbers (words rest.entry.text.now)) }
 {
-    let mut all = Vec::new(heap);
-    let mut rest = text;
-    while let Some((word, after)) = next_word(rest) {
+    let mut all = Vec::new(alloc);
+    for word in rest {
         let Some(n) = short_number(word) else {
             return Ok(None);
         };
         all.push(n)?;
-        rest = after;
     }
     Ok(Some(all))
 }
 
-// The numbers after the first word of a line; none if a word after it is no number.
-pub fn numbers_after(heap: Global, line: &[u8]) -> Result<Vec<u16>, AllocError>
+// The numbers after the first word of a line; none if a word after it is no number, which is a line that was not understood.
+pub fn numbers_after(alloc: Global, line: &[u8]) -> Result<Vec<u16>, AllocError>
     ensures { IfOk result (λ ns. ns.items ≡ numbers_after (words line.now)) }
 {
-    let Some((_, text)) = next_word(line) else {
-        return Ok(Vec::new(heap));
-    };
-    match all_numbers(heap, text)? {
-        Some(numbers) => Ok(numbers),
-        None => Ok(Vec::new(heap)),
-    }
+    let mut rest = Words::new(line);
+    let _first = rest.next();
+    Ok(all_numbers(alloc, rest)?.unwrap_or(Vec::new(alloc)))
 }

@@ -9,13 +9,14 @@ use std::io::{BufRead, BufReader};
 fn run(rt: &HostRuntime, session: &mut Session) -> anyhow::Result<()> {
     let mut input = BufReader::new(rt.alloc(), rt.stdin())?;
     let mut text = Vec::new(rt.alloc());
+    // A loop over lines would drop their endings, which the session reads; and a loop has to end.
     for _ in 0..u64::MAX {
         text.clear();
         if input.read_until(b'\n', &mut text)? == 0 {
             break;
         }
         if let Some(reply) = session.line(text.as_slice())? {
-            rt.println(reply)?;
+            println!(rt; "{reply}")?;
         }
     }
     Ok(())
@@ -24,7 +25,7 @@ fn run(rt: &HostRuntime, session: &mut Session) -> anyhow::Result<()> {
 fn close(rt: &HostRuntime, session: &mut Session) -> anyhow::Result<()> {
     for h in 0..session.holds() {
         if let Some(reply) = session.close_hold(h) {
-            rt.println(reply)?;
+            println!(rt; "{reply}")?;
         }
     }
     Ok(())

@@ -1,4 +1,3 @@
-pub mod Padding
-pub mod Scanning
-pub mod Losing
 pub mod Citing
+pub mod Marking
+pub mod Placing

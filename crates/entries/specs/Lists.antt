@@ -1,5 +1,5 @@
 -- The entries of a book as a list, and what each call on them answers and makes of them.
-use Rattle.std.specs.Prelude.{ℕ, Bool, true, false, cond, ◌&&◌, List, [], ◌∷◌, ◌++◌, map, length, replicate, Ok, Err, count_by, Result, nat_lt, slice_index_or, slice_set}
+use Rattle.std.specs.Prelude.{ℕ, Bool, true, false, cond, ◌&&◌, List, [], ◌∷◌, ◌++◌, map, length, replicate, Ok, Err, count_by, position, unwrap_or, Result, nat_lt, slice_index_or, slice_set}
 use Rattle.states.specs.declared.entry.Entry.{Entry}
 use Rattle.states.specs.declared.entry.EntryFacts.{EntryFacts}
 use Rattle.states.specs.declared.entry.Origin.TheVariants.{Given}
@@ -8,7 +8,6 @@ use Rattle.states.specs.declared.entry.Event.{Event}
 use Rattle.states.specs.declared.refusal.Refusal.{Refusal}
 use Rattle.states.specs.declared.refusal.Refusal.TheVariants.{EntriesFull, UnknownEntry, NotAGivenRule, NotStanding, NotHeld}
 use Rattle.states.specs.Support.{with_state, falls_with, lose, facts}
-use Rattle.entries.specs.Scans.{first_place, or_zero}
 use Rattle.states.specs.States.{becomes, is_held, is_standing, is_given}
 
 -- what a call answers, and the entries afterwards
@@ -26,12 +25,9 @@ grant x es = record { answer = Ok x; after = es }
 abbrev pub no_rules : List Bool
 no_rules = replicate 512 false
 
-abbrev pub no_citations : List ℕ
-no_citations = replicate 16 0
-
 -- what a read past the end gives: 0, first variants, empty arrays
 abbrev pub no_entry : Entry
-no_entry = record { origin = Given; predicate = 0; state = Standing; count = 0; citations = []; support = [] }
+no_entry = record { origin = Given; predicate = 0; state = Standing; citations = record { items = [] }; support = [] }
 
 abbrev pub at : List Entry → ℕ → Entry
 at es e = slice_index_or es e no_entry
@@ -42,7 +38,7 @@ add es x = cond (nat_lt (length es) 512) (grant (length es) (es ++ x ∷ [])) (r
 
 -- the support of a given rule is itself
 abbrev pub given_entry : ℕ → ℕ → Entry
-given_entry e p = record { origin = Given; predicate = p; state = Standing; count = 0; citations = no_citations; support = slice_set no_rules e true }
+given_entry e p = record { origin = Given; predicate = p; state = Standing; citations = record { items = [] }; support = slice_set no_rules e true }
 
 abbrev pub give : List Entry → ℕ → Change ℕ
 give es p = add es (given_entry (length es) p)
@@ -68,7 +64,7 @@ lift es e = cond (holds_entry es e) (grant tt (changed es e Event.Lift)) (refuse
 
 -- how many standing conclusions fall with r, and the lowest of them
 abbrev pub falling : List Entry → ℕ → ℕ × ℕ
-falling es r = (count_by (falls_with r) es, or_zero (first_place (falls_with r) 0 es))
+falling es r = (count_by (falls_with r) es, unwrap_or (position (falls_with r) es) 0)
 
 abbrev pub preview : List Entry → ℕ → Result (ℕ × ℕ) Refusal
 preview es e = cond (holds_entry es e) (Ok (falling es e)) (Err NotHeld)

@@ -1,17 +1,15 @@
 // The calls on the entries.
-ghost use Rattle.std.specs.Prelude.{◌≡◌, ◌≤◌, [], length, IfOk};
-ghost use Rattle.entries.specs.Scans.{first_place};
-ghost use Rattle.states.specs.Support.{stands_with};
-ghost use Rattle.entries.specs.Lists.{give, hold, holds_entry, lift, preview, withdraw, ask};
-ghost use Rattle.entries.specs.Concluding.{cite, conclude};
+ghost use Rattle.std.specs.Prelude.{◌≡◌, ◌≤◌, [], Ok, Err, cond, map, length, nat_lt, position, IfOk};
+ghost use Rattle.states.specs.declared.refusal.Refusal.TheVariants.{EntriesFull, NotHeld};
+ghost use Rattle.states.specs.Support.{stands_with, lose};
+ghost use Rattle.entries.specs.Lists.{give, hold, holds_entry, lift, falling, preview, withdraw, ask};
+ghost use Rattle.entries.specs.Concluding.{conclude};
 ghost use Rattle.entries.specs.View.{items};
 
-use crate::cited::{
-    first_held, first_not_standing, first_out_of_order, is_same_set, joined_support, padded,
-};
-use crate::scan::{falling, first_standing, lose_rule};
+use crate::cited::Cited;
 use crate::store::Entries;
-use calculus::refusal::{Fault, Refusal as DerivationRefusal};
+use arrayvec::ArrayVec;
+use calculus::refusal::Refusal as DerivationRefusal;
 use states::entry::{Entry, EntryFacts, Event, Origin, State};
 use states::refusal::Refusal;
 use std::alloc::{AllocError, Global};
@@ -22,69 +20,42 @@ pub const MAX_CITATIONS: usize = 16;
 
 impl Entries {
     // No entries, with room for all that there can be.
-    pub fn new(heap: Global) -> Result<Entries, AllocError>
+    pub fn new(alloc: Global) -> Result<Entries, AllocError>
         ensures { IfOk result (λ s. items s ≡ []) }
     {
-        let list = Vec::with_capacity(heap, MAX_ENTRIES)?;
+        let list = Vec::with_capacity(alloc, MAX_ENTRIES)?;
         Ok(Entries { list })
+    }
+
+    // The number of the next entry, if there is room for it.
+    fn next_number(&self) -> Result<u16, Refusal>
+        ensures { result ≡ cond (nat_lt (length (items self.now)) 512) (Ok (length (items self.now))) (Err EntriesFull) }
+    {
+        let e = self.list.len();
+        if e >= MAX_ENTRIES {
+            return Err(Refusal::EntriesFull);
+        }
+        Ok(e as u16)
     }
 
     pub fn give(&mut self, p: u16) -> Result<u16, Refusal>
         ensures answer { result ≡ (give (items self.old) p).answer }
         ensures after { items self.new ≡ (give (items self.old) p).after }
     {
-        let e = self.list.len();
-        if e >= MAX_ENTRIES {
-            return Err(Refusal::EntriesFull);
-        }
+        let e = self.next_number()?;
         let mut support = [false; 512];
-        support[e] = true;
+        support[usize::from(e)] = true;
         self.list.push_reserved(Entry {
             origin: Origin::Given,
             predicate: p,
             state: State::Standing,
-            count: 0,
-            citations: [0; 16],
+            citations: ArrayVec::new(),
             support,
         });
-        Ok(e as u16)
+        Ok(e)
     }
 
-    // A conclusion from the citations, whose predicates have to be the hypotheses.
-    fn cite(&mut self, goal: u16, hypotheses: &[u16], citations: &[u16]) -> Result<u16, Refusal>
-        requires { length citations.now ≤ 16 }
-        ensures answer { result ≡ (cite (items self.old) goal hypotheses.now citations.now).answer }
-        ensures after { items self.new ≡ (cite (items self.old) goal hypotheses.now citations.now).after }
-    {
-        let n = self.list.len();
-        if let Some(place) = first_out_of_order(n, citations) {
-            return Err(Refusal::UnknownCitation(place));
-        }
-        if let Some(place) = first_not_standing(&self.list, citations) {
-            return Err(Refusal::CitationNotStanding(place));
-        }
-        if let Some(place) = first_held(&self.list, citations) {
-            return Err(Refusal::CitationHeld(place));
-        }
-        if !is_same_set(&self.list, citations, hypotheses) {
-            return Err(Refusal::HypothesesDiffer);
-        }
-        if n >= MAX_ENTRIES {
-            return Err(Refusal::EntriesFull);
-        }
-        let support = joined_support(&self.list, citations);
-        self.list.push_reserved(Entry {
-            origin: Origin::Concluded,
-            predicate: goal,
-            state: State::Standing,
-            count: citations.len() as u16,
-            citations: padded(citations),
-            support,
-        });
-        Ok(n as u16)
-    }
-
-    // A conclusion, once its derivation has passed with this root.
+    // A conclusion from the citations, whose predicates have to be the hypotheses, once its derivation has passed with this root.
     pub fn conclude(
         &mut self,
         goal: u16,
@@ -94,99 +65,114 @@ impl Entries {
         ensures answer { result ≡ (conclude (items self.old) goal hypotheses.now citations.now).answer }
         ensures after { items self.new ≡ (conclude (items self.old) goal hypotheses.now citations.now).after }
     {
-        if citations.len() > MAX_CITATIONS {
-            return Err(Refusal::Derivation(DerivationRefusal {
-                fault: Fault::Size,
-                step: 0,
-            }));
+        let Ok(citations) = ArrayVec::try_from(citations) else {
+            return Err(DerivationRefusal::SIZE.into());
+        };
+        let cited = Cited::new(&self.list, citations)?;
+        if let Some(place) = cited.first_not_standing() {
+            return Err(Refusal::CitationNotStanding(place));
         }
-        self.cite(goal, hypotheses, citations)
+        if let Some(place) = cited.first_held() {
+            return Err(Refusal::CitationHeld(place));
+        }
+        if !cited.is_same_set(hypotheses) {
+            return Err(Refusal::HypothesesDiffer);
+        }
+        let conclusion = cited.conclusion(goal);
+        let e = self.next_number()?;
+        self.list.push_reserved(conclusion);
+        Ok(e)
     }
 
     pub fn hold(&mut self, e: u16) -> Result<(), Refusal>
         ensures answer { result ≡ (hold (items self.old) e).answer }
         ensures after { items self.new ≡ (hold (items self.old) e).after }
     {
-        let k = usize::from(e);
-        if k >= self.list.len() {
-            return Err(Refusal::UnknownEntry);
-        }
-        let x = self.list[k];
+        let x = self
+            .list
+            .get_mut(usize::from(e))
+            .ok_or(Refusal::UnknownEntry)?;
         if !x.origin.is_given() {
             return Err(Refusal::NotAGivenRule);
         }
         if !x.state.is_standing() {
             return Err(Refusal::NotStanding);
         }
-        self.list[k].state = x.state.next(Event::Hold, x.origin);
+        x.undergo(Event::Hold);
         Ok(())
     }
 
-    // Whether e is an entry and held.
-    fn holds_entry(&self, e: u16) -> bool
-        ensures { result ≡ holds_entry (items self.now) e }
+    // The place of the held rule e.
+    fn held(&self, e: u16) -> Result<usize, Refusal>
+        ensures { result ≡ cond (holds_entry (items self.now) e) (Ok e) (Err NotHeld) }
     {
-        let k = usize::from(e);
-        k < self.list.len() && self.list[k].state.is_held()
+        let r = usize::from(e);
+        match self.list.get(r) {
+            Some(x) if x.state.is_held() => Ok(r),
+            _ => Err(Refusal::NotHeld),
+        }
     }
 
     pub fn lift(&mut self, e: u16) -> Result<(), Refusal>
         ensures answer { result ≡ (lift (items self.old) e).answer }
         ensures after { items self.new ≡ (lift (items self.old) e).after }
     {
-        if !self.holds_entry(e) {
-            return Err(Refusal::NotHeld);
-        }
-        let k = usize::from(e);
-        let x = self.list[k];
-        self.list[k].state = x.state.next(Event::Lift, x.origin);
+        let r = self.held(e)?;
+        self.list[r].undergo(Event::Lift);
         Ok(())
+    }
+
+    // How many standing conclusions fall with the rule r, and the lowest of them, or 0: the answer is a pair of numbers, which is printed.
+    fn falling(&self, r: usize) -> (u16, u16)
+        ensures { result ≡ falling (items self.now) r }
+    {
+        let count = self.list.iter().filter(|x| x.falls_with(r)).count();
+        let lowest = self.list.iter().position(|x| x.falls_with(r)).unwrap_or(0);
+        (count as u16, lowest as u16)
     }
 
     // How many standing conclusions fall when the rule e is withdrawn, and the lowest of them, or 0.
     pub fn preview(&self, e: u16) -> Result<(u16, u16), Refusal>
         ensures { result ≡ preview (items self.now) e }
     {
-        if !self.holds_entry(e) {
-            return Err(Refusal::NotHeld);
-        }
-        Ok(falling(&self.list, usize::from(e)))
+        let r = self.held(e)?;
+        Ok(self.falling(r))
     }
 
     pub fn withdraw(&mut self, e: u16) -> Result<(u16, u16), Refusal>
         ensures answer { result ≡ (withdraw (items self.old) e).answer }
         ensures after { items self.new ≡ (withdraw (items self.old) e).after }
     {
-        if !self.holds_entry(e) {
-            return Err(Refusal::NotHeld);
+        let r = self.held(e)?;
+        let fell = self.falling(r);
+        self.list[r].undergo(Event::Withdraw);
+        self.lose(r);
+        Ok(fell)
+    }
+
+    // Every entry loses the rule r.
+    fn lose(&mut self, r: usize)
+        ensures { items self.new ≡ map (lose r) (items self.old) }
+    {
+        for x in self.list.iter_mut() {
+            x.lose(r);
         }
-        let r = usize::from(e);
-        let pair = falling(&self.list, r);
-        let x = self.list[r];
-        self.list[r].state = x.state.next(Event::Withdraw, x.origin);
-        lose_rule(&mut self.list, r);
-        Ok(pair)
     }
 
     pub fn ask(&self, e: u16) -> Result<EntryFacts, Refusal>
         ensures { result ≡ ask (items self.now) e }
     {
-        let k = usize::from(e);
-        if k >= self.list.len() {
-            return Err(Refusal::UnknownEntry);
-        }
-        let x = self.list[k];
-        Ok(EntryFacts {
-            origin: x.origin,
-            predicate: x.predicate,
-            state: x.state,
-        })
+        let x = self.list.get(usize::from(e)).ok_or(Refusal::UnknownEntry)?;
+        Ok(EntryFacts::from(x))
     }
 
     // The lowest entry that stands with the predicate p.
     pub fn first_standing(&self, p: u16) -> Option<u16>
-        ensures { result ≡ first_place (stands_with p) 0 (items self.now) }
+        ensures { result ≡ position (stands_with p) (items self.now) }
     {
-        first_standing(&self.list, p)
+        self.list
+            .iter()
+            .position(|x| x.stands_with(p))
+            .map(|e| e as u16)
     }
 }

@@ -1,167 +1,142 @@
-// What is asked of the citations of a conclusion.
-ghost use Rattle.std.specs.Prelude.{◌≡◌, ◌<◌, ◌≤◌, ◌&&◌, map, length, nat_le, nat_lt};
-ghost use Rattle.entries.specs.Scans.{first_place, mem, subset};
-ghost use Rattle.entries.specs.Concluding.{disorder, Known, does_not_stand, support_held, predicate_of, same_set, joined, row, padded};
+// What is asked of the citations of a conclusion, and the conclusion.
+ghost use Rattle.std.specs.Prelude.{◌≡◌, ℕ, ◌<◌, None, Some, length, map, position, IfOk, IfErr};
+ghost use Rattle.states.specs.declared.refusal.Refusal.TheVariants.{UnknownCitation};
+ghost use Rattle.entries.specs.Scans.{mem, subset};
+ghost use Rattle.entries.specs.Lists.{at};
+ghost use Rattle.entries.specs.Concluding.{disorder, Known, does_not_stand, support_held, predicates, same_set, joined, row, conclusion};
 
-use states::entry::Entry;
+use arrayvec::ArrayVec;
+use states::entry::{Entry, Origin, State};
+use states::refusal::Refusal;
+use std::array;
 
-fn is_next(c: usize, count: usize, low: usize) -> bool
-    ensures { result ≡ (nat_lt c count && nat_le low c) }
-{
-    c < count && low <= c
+// Entries, and citations in order: each is of an entry.
+#[derive(Drop)]
+pub(crate) struct Cited<'a> {
+    entries: &'a [Entry],
+    citations: ArrayVec<u16, 16>,
+    ghost known: { Known entries.now citations.items },
 }
 
-// The first citation that is no entry, of so many, or not above the one before it.
-pub(crate) fn first_out_of_order(count: usize, citations: &[u16]) -> Option<u16>
-    requires { length citations.now ≤ 16 }
-    ensures { result ≡ disorder count 0 0 citations.now }
-{
-    let mut low = 0;
-    for i in 0..citations.len() {
-        let c = usize::from(citations[i]);
-        if !is_next(c, count, low) {
-            return Some(i as u16);
+impl<'a> Cited<'a> {
+    // The citations, if they are in order, or the first that is no entry or not above the one before it.
+    pub(crate) fn new(
+        entries: &'a [Entry],
+        citations: ArrayVec<u16, 16>,
+    ) -> Result<Cited<'a>, Refusal>
+        ensures accepted { IfOk result (λ c. (c.entries.now ≡ entries.now) × (c.citations ≡ citations) × (disorder (length entries.now) 0 0 citations.items ≡ None)) }
+        ensures refused { IfErr result (λ why. (place : ℕ) × (why ≡ UnknownCitation place) × (disorder (length entries.now) 0 0 citations.items ≡ Some place)) }
+    {
+        // Each citation is compared with the one before it and with the count at once; a chain would need both in its state.
+        let mut low = 0;
+        for (place, c) in citations.iter().enumerate() {
+            let c = usize::from(*c);
+            if c < low || c >= entries.len() {
+                return Err(Refusal::UnknownCitation(place as u16));
+            }
+            low = c + 1;
         }
-        low = c + 1;
+        Ok(Cited { entries, citations })
     }
-    None
-}
 
-// The first citation that does not stand.
-pub(crate) fn first_not_standing(entries: &[Entry], citations: &[u16]) -> Option<u16>
-    requires few { length citations.now ≤ 16 }
-    requires known { Known entries.now citations.now }
-    ensures { result ≡ first_place (does_not_stand entries.now) 0 citations.now }
-{
-    for i in 0..citations.len() {
-        if !entries[usize::from(citations[i])].state.stands() {
-            return Some(i as u16);
+    fn entry(&self, c: u16) -> &Entry
+        requires { c < length self.now.entries.now }
+        ensures { result.now ≡ at self.now.entries.now c }
+    {
+        &self.entries[usize::from(c)]
+    }
+
+    // The first citation that does not stand. This and `first_held` are one chain each: a helper would take the test as a closure and
+    // say of it in its contract what the two say plainly.
+    pub(crate) fn first_not_standing(&self) -> Option<u16>
+        ensures { result ≡ position (does_not_stand self.now.entries.now) self.now.citations.items }
+    {
+        self.citations
+            .iter()
+            .position(|c| !self.entry(*c).state.stands())
+            .map(|place| place as u16)
+    }
+
+    // Whether a held rule is in the support of the entry c.
+    fn is_support_held(&self, c: u16) -> bool
+        requires { c < length self.now.entries.now }
+        ensures { result ≡ support_held self.now.entries.now c }
+    {
+        let x = self.entry(c);
+        self.entries
+            .iter()
+            .enumerate()
+            .any(|(r, rule)| x.rests_on(r) && rule.state.is_held())
+    }
+
+    // The first citation with a held rule in its support.
+    pub(crate) fn first_held(&self) -> Option<u16>
+        ensures { result ≡ position (support_held self.now.entries.now) self.now.citations.items }
+    {
+        self.citations
+            .iter()
+            .position(|c| self.is_support_held(*c))
+            .map(|place| place as u16)
+    }
+
+    // Whether an entry with the predicate p is cited.
+    fn has_predicate(&self, p: u16) -> bool
+        ensures { result ≡ mem p (predicates self.now.entries.now self.now.citations.items) }
+    {
+        self.citations
+            .iter()
+            .map(|c| self.entry(*c).predicate)
+            .any(|q| q == p)
+    }
+
+    // Whether the predicate of each citation is among the hypotheses.
+    fn are_assumed(&self, hypotheses: &[u16]) -> bool
+        ensures { result ≡ subset (predicates self.now.entries.now self.now.citations.items) hypotheses.now }
+    {
+        self.citations
+            .iter()
+            .map(|c| self.entry(*c).predicate)
+            .all(|p| hypotheses.contains(&p))
+    }
+
+    // Whether each hypothesis is the predicate of a citation.
+    fn are_cited(&self, hypotheses: &[u16]) -> bool
+        ensures { result ≡ subset hypotheses.now (predicates self.now.entries.now self.now.citations.items) }
+    {
+        hypotheses.iter().all(|p| self.has_predicate(*p))
+    }
+
+    // Whether the predicates cited are the hypotheses, as sets.
+    pub(crate) fn is_same_set(&self, hypotheses: &[u16]) -> bool
+        ensures { result ≡ same_set (predicates self.now.entries.now self.now.citations.items) hypotheses.now }
+    {
+        self.are_assumed(hypotheses) && self.are_cited(hypotheses)
+    }
+
+    // Whether the rule r is in the support of an entry cited.
+    fn rests_on(&self, r: usize) -> bool
+        ensures { result ≡ joined self.now.entries.now self.now.citations.items r }
+    {
+        self.citations.iter().any(|c| self.entry(*c).rests_on(r))
+    }
+
+    // The joined supports of the entries cited.
+    fn support(&self) -> [bool; 512]
+        ensures { result ≡ row (joined self.now.entries.now self.now.citations.items) }
+    {
+        array::from_fn(|r| self.rests_on(r))
+    }
+
+    pub(crate) fn conclusion(self, goal: u16) -> Entry
+        ensures { result ≡ conclusion self.entry.entries.now self.entry.citations.items goal }
+    {
+        let support = self.support();
+        Entry {
+            origin: Origin::Concluded,
+            predicate: goal,
+            state: State::Standing,
+            citations: self.citations,
+            support,
         }
     }
-    None
-}
-
-// Whether a held rule is in the support of the entry c.
-fn is_support_held(entries: &[Entry], c: u16) -> bool
-    requires few { length entries.now ≤ 512 }
-    requires known { c < length entries.now }
-    ensures { result ≡ support_held entries.now c }
-{
-    for r in 0..entries.len() {
-        if entries[usize::from(c)].support[r] & entries[r].state.is_held() {
-            return true;
-        }
-    }
-    false
-}
-
-// The first citation with a held rule in its support.
-pub(crate) fn first_held(entries: &[Entry], citations: &[u16]) -> Option<u16>
-    requires few { length citations.now ≤ 16 }
-    requires short { length entries.now ≤ 512 }
-    requires known { Known entries.now citations.now }
-    ensures { result ≡ first_place (support_held entries.now) 0 citations.now }
-{
-    for i in 0..citations.len() {
-        if is_support_held(entries, citations[i]) {
-            return Some(i as u16);
-        }
-    }
-    None
-}
-
-fn is_among(p: u16, list: &[u16]) -> bool
-    ensures { result ≡ mem p list.now }
-{
-    for i in 0..list.len() {
-        if p == list[i] {
-            return true;
-        }
-    }
-    false
-}
-
-// Whether an entry with the predicate p is cited.
-fn is_cited(entries: &[Entry], citations: &[u16], p: u16) -> bool
-    requires known { Known entries.now citations.now }
-    ensures { result ≡ mem p (map (predicate_of entries.now) citations.now) }
-{
-    for i in 0..citations.len() {
-        if p == entries[usize::from(citations[i])].predicate {
-            return true;
-        }
-    }
-    false
-}
-
-// Whether the predicate of each citation is among the hypotheses.
-fn are_assumed(entries: &[Entry], citations: &[u16], hypotheses: &[u16]) -> bool
-    requires known { Known entries.now citations.now }
-    ensures { result ≡ subset (map (predicate_of entries.now) citations.now) hypotheses.now }
-{
-    for i in 0..citations.len() {
-        if !is_among(entries[usize::from(citations[i])].predicate, hypotheses) {
-            return false;
-        }
-    }
-    true
-}
-
-// Whether each hypothesis is the predicate of a citation.
-fn are_cited(entries: &[Entry], citations: &[u16], hypotheses: &[u16]) -> bool
-    requires known { Known entries.now citations.now }
-    ensures { result ≡ subset hypotheses.now (map (predicate_of entries.now) citations.now) }
-{
-    for i in 0..hypotheses.len() {
-        if !is_cited(entries, citations, hypotheses[i]) {
-            return false;
-        }
-    }
-    true
-}
-
-// Whether the predicates cited are the hypotheses, as sets.
-pub(crate) fn is_same_set(entries: &[Entry], citations: &[u16], hypotheses: &[u16]) -> bool
-    requires known { Known entries.now citations.now }
-    ensures { result ≡ same_set (map (predicate_of entries.now) citations.now) hypotheses.now }
-{
-    are_assumed(entries, citations, hypotheses) && are_cited(entries, citations, hypotheses)
-}
-
-// Whether the rule r is in the support of an entry cited.
-fn is_joined(entries: &[Entry], citations: &[u16], r: usize) -> bool
-    requires known { Known entries.now citations.now }
-    requires rule { r < 512 }
-    ensures { result ≡ joined entries.now citations.now r }
-{
-    for i in 0..citations.len() {
-        if entries[usize::from(citations[i])].support[r] {
-            return true;
-        }
-    }
-    false
-}
-
-// The joined supports of the entries cited.
-pub(crate) fn joined_support(entries: &[Entry], citations: &[u16]) -> [bool; 512]
-    requires known { Known entries.now citations.now }
-    ensures { result ≡ row (joined entries.now citations.now) }
-{
-    let mut support = [false; 512];
-    for r in 0..512 {
-        support[r] = is_joined(entries, citations, r);
-    }
-    support
-}
-
-// The citations, with 0 in the places left.
-pub(crate) fn padded(citations: &[u16]) -> [u16; 16]
-    requires { length citations.now ≤ 16 }
-    ensures { result ≡ padded citations.now }
-{
-    let mut list = [0; 16];
-    for i in 0..citations.len() {
-        list[i] = citations[i];
-    }
-    list
 }

@@ -3,7 +3,6 @@
 
 pub mod calls;
 mod cited;
-mod scan;
 pub mod store;
 
 pub use store::Entries;

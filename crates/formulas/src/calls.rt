@@ -5,6 +5,6 @@ pub enum Call {
     NewProduct(u16, u16),
     NewVariable(u16),
     NewSetName(u16),
-    // a kind and two operands
+    // a kind and two operands; any numbers may be brought, so the kind is one too
     EnterFormula(u16, u16, u16),
 }

@@ -1,9 +1,12 @@
 // The kinds of formula, and what the operands of each are.
 ghost use Rattle.std.specs.Prelude.{◌≡◌};
-ghost use Rattle.formulas.specs.Kinds.{kind_numbered, first_role, second_role, is_formula, is_variable, is_pair, is_equal, is_member, is_binder, kind_number, is_expression_kind};
+ghost use Rattle.formulas.specs.Kinds.{kind_numbered, first_role, second_role, is_formula, kind_number, is_expression_kind};
+ghost use Rattle.formulas.specs.Refusals.{kind_or_refusal};
+
+use crate::refusals::Refusal;
 
 // What an operand of a formula is.
-#[derive(Clone, Copy)]
+#[derive(Clone, Copy, PartialEq, Eq, Debug)]
 pub enum Role {
     Nothing,
     AVariable,
@@ -12,7 +15,7 @@ pub enum Role {
     ASetName,
 }
 
-#[derive(Clone, Copy)]
+#[derive(Clone, Copy, PartialEq, Eq, Debug)]
 pub enum Kind {
     Variable,
     Pair,
@@ -33,35 +36,46 @@ impl Role {
     pub fn is_formula(self) -> bool
         ensures { result ≡ is_formula self }
     {
-        match self {
-            Role::Expression | Role::Predicate => true,
-            Role::Nothing | Role::AVariable | Role::ASetName => false,
+        matches!(self, Role::Expression | Role::Predicate)
+    }
+}
+
+// The kind that has a number.
+impl TryFrom<u16> for Kind {
+    type Error = Refusal;
+
+    ghost try_from_gives = { λ n kind. kind ≡ kind_or_refusal n };
+
+    fn try_from(n: u16) -> Result<Kind, Refusal> {
+        match n {
+            0 => Ok(Kind::Variable),
+            1 => Ok(Kind::Pair),
+            2 => Ok(Kind::False),
+            3 => Ok(Kind::True),
+            4 => Ok(Kind::Not),
+            5 => Ok(Kind::And),
+            6 => Ok(Kind::Or),
+            7 => Ok(Kind::Implies),
+            8 => Ok(Kind::Iff),
+            9 => Ok(Kind::ForAll),
+            10 => Ok(Kind::Exists),
+            11 => Ok(Kind::Equal),
+            12 => Ok(Kind::Member),
+            _ => Err(Refusal::UnknownKind),
         }
     }
 }
 
-impl Kind {
-    pub fn from_number(n: u16) -> Option<Kind>
-        ensures { result ≡ kind_numbered n }
-    {
-        match n {
-            0 => Some(Kind::Variable),
-            1 => Some(Kind::Pair),
-            2 => Some(Kind::False),
-            3 => Some(Kind::True),
-            4 => Some(Kind::Not),
-            5 => Some(Kind::And),
-            6 => Some(Kind::Or),
-            7 => Some(Kind::Implies),
-            8 => Some(Kind::Iff),
-            9 => Some(Kind::ForAll),
-            10 => Some(Kind::Exists),
-            11 => Some(Kind::Equal),
-            12 => Some(Kind::Member),
-            _ => None,
-        }
-    }
+// The number of a kind, for callers who print or store one.
+impl From<Kind> for u16 {
+    ghost from_gives = { λ kind n. n ≡ kind_number kind };
 
+    fn from(kind: Kind) -> u16 {
+        kind as u16
+    }
+}
+
+impl Kind {
     pub fn first_role(self) -> Role
         ensures { result ≡ first_role self }
     {
@@ -86,45 +100,9 @@ impl Kind {
         }
     }
 
-    pub fn is_variable(self) -> bool
-        ensures { result ≡ is_variable self }
-    {
-        matches!(self, Kind::Variable)
-    }
-
-    pub fn is_pair(self) -> bool
-        ensures { result ≡ is_pair self }
-    {
-        matches!(self, Kind::Pair)
-    }
-
-    pub fn is_equal(self) -> bool
-        ensures { result ≡ is_equal self }
-    {
-        matches!(self, Kind::Equal)
-    }
-
-    pub fn is_member(self) -> bool
-        ensures { result ≡ is_member self }
-    {
-        matches!(self, Kind::Member)
-    }
-
-    pub fn is_binder(self) -> bool
-        ensures { result ≡ is_binder self }
-    {
-        matches!(self, Kind::ForAll | Kind::Exists)
-    }
-
     pub fn is_expression(self) -> bool
         ensures { result ≡ is_expression_kind self }
     {
         matches!(self, Kind::Variable | Kind::Pair)
-    }
-
-    pub fn number(self) -> u16
-        ensures { result ≡ kind_number self }
-    {
-        self as u16
     }
 }

@@ -4,3 +4,4 @@ pub mod Meanings
 pub mod Growing
 pub mod Rules
 pub mod Examples
+pub mod Numbers

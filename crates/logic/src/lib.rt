@@ -1,4 +1,4 @@
-// The logic of the derivation book: each function's contract is a theorem about the definitions of specs/.
+// The logic of the derivation book: each function of this file has a theorem about the definitions of specs/ for its contract.
 #![tactic(auto)]
 
 ghost use Rattle.logic.specs.Deciding.{TypesDecided, FormedDecided, SureWellFormed};
@@ -10,134 +10,96 @@ ghost use Rattle.logic.specs.Meanings.{Coincidence, BoundIndependent, Substituti
 pub mod rule;
 
 // Truth depends on free variables only.
-pub fn meaning_depends_on_free_variables() -> u8
+pub fn meaning_depends_on_free_variables()
     ensures { Coincidence }
-{
-    0
-}
+{}
 
 // The value of a variable that is not free makes no difference.
-pub fn bound_variables_do_not_count() -> u8
+pub fn bound_variables_do_not_count()
     ensures { BoundIndependent }
-{
-    0
-}
+{}
 
 // [x:=E]P is true where P is with x at the value of E.
-pub fn substitution_evaluates() -> u8
+pub fn substitution_evaluates()
     ensures { Substitution }
-{
-    0
-}
+{}
 
 // The value of an expression is among its type's values.
-pub fn values_are_typed() -> u8
+pub fn values_are_typed()
     ensures { ValuesTyped }
-{
-    0
-}
+{}
 
 // A vocabulary that grows changes nothing of what older numbers mean.
-pub fn growth_keeps_meanings() -> u8
+pub fn growth_keeps_meanings()
     ensures { GrowthKeeps }
-{
-    0
-}
+{}
 
 // A vocabulary stays well formed if what is new is.
-pub fn growth_stays_well_formed() -> u8
+pub fn growth_stays_well_formed()
     ensures { StaysWellFormed }
-{
-    0
-}
+{}
 
 // A formula over known operands that is formed and new may be entered.
-pub fn formulas_enter_well() -> u8
+pub fn formulas_enter_well()
     ensures { EntersWell }
-{
-    0
-}
+{}
 
 // So may types, variables and set names.
-pub fn others_enter_well() -> u8
+pub fn others_enter_well()
     ensures { OthersEnterWell }
-{
-    0
-}
+{}
 
 // The type that is reckoned is the type.
-pub fn types_are_decided() -> u8
+pub fn types_are_decided()
     ensures { TypesDecided }
-{
-    0
-}
+{}
 
 // A shape is formed exactly when the tests of its operands pass.
-pub fn forms_are_decided() -> u8
+pub fn forms_are_decided()
     ensures { FormedDecided }
-{
-    0
-}
+{}
 
 // A vocabulary that is well formed as far as tests tell is well formed.
-pub fn sure_is_well_formed() -> u8
+pub fn sure_is_well_formed()
     ensures { SureWellFormed }
-{
-    0
-}
+{}
 
 // The worked example.
-pub fn worked_example_stands() -> u8
+pub fn worked_example_stands()
     ensures { WorkedExample }
-{
-    0
-}
+{}
 
 // Where all premises of an instance are valid, so is its sequent.
-pub fn rules_are_sound() -> u8
+pub fn rules_are_sound()
     ensures { Sound }
-{
-    0
-}
+{}
 
 // ⊥ is not valid.
-pub fn rules_are_consistent() -> u8
+pub fn rules_are_consistent()
     ensures { Consistent }
-{
-    0
-}
+{}
 
 // Some H fits exactly when the least one does, which comparing sets tells.
-pub fn sets_decide() -> u8
+pub fn sets_decide()
     ensures { InstanceBySets }
-{
-    0
-}
+{}
 
 // MON is weakening by a subset.
-pub fn mon_is_by_subset() -> u8
+pub fn mon_is_by_subset()
     ensures { MonBySubset }
-{
-    0
-}
+{}
 
 // FALSE_L asks for ⊥ among the hypotheses.
-pub fn falsity_is_by_member() -> u8
+pub fn falsity_is_by_member()
     ensures { FalseByMember }
-{
-    0
-}
+{}
 
 // Arguments and goals determine a step's line of the table.
-pub fn lines_are_unique() -> u8
+pub fn lines_are_unique()
     ensures { LinesUnique }
-{
-    0
-}
+{}
 
 // So a step is judged by that line alone.
-pub fn lines_judge() -> u8
+pub fn lines_judge()
     ensures { JudgedByLine }
-{
-    0
-}
+{}

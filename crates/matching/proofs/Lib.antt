@@ -1,3 +1,1 @@
-pub mod Members
 pub mod Records
-pub mod Premises

@@ -1,3 +1,4 @@
 pub mod Reading
 pub mod Sets
 pub mod Lines
+pub mod Candidates

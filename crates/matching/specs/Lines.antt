@@ -1,36 +1,34 @@
--- The line of the table that a step would be an instance of, and when some context fits it.
-use Rattle.std.specs.Prelude.{ℕ, Bool, true, false, not, ◌&&◌, T, ◌↔◌, List, [], ◌∷◌, Some, None, Option, ◌==◌, slice_index_or}
+-- The line of the table that a step has, and when some context fits it.
+use Rattle.std.specs.Prelude.{ℕ, Bool, true, false, not, ◌&&◌, T, ◌↔◌, List, [], ◌∷◌, Some, None, Option, ◌==◌, if◌then◌else◌, slice_index_or}
 use Rattle.logic.specs.Formulas.{Vocabulary, free, IsSubstitution}
 use Rattle.logic.specs.Deciding.{is_predicate}
 use Rattle.logic.specs.Meanings.{Sequent as Seq}
 use Rattle.logic.specs.Rules.{◌⊢◌}
 use Rattle.logic.specs.declared.rule.Rule.{Rule}
 use Rattle.logic.specs.declared.rule.Rule.TheVariants.{Hyp, Mon, Cut, FalseL, FalseR, NotL, NotR, AndL, AndR, OrL, OrR, ImpL, ImpR, TrueR, EqvL, EqvR, AllL, AllR, XstL, XstR, Eql, EqLR, EqRL, PairL, PairR}
-use Rattle.formulas.specs.declared.kinds.Kind.TheVariants.{Pair, False, True, Not, And, Or, Implies, Iff, ForAll, Exists, Equal}
+use Rattle.formulas.specs.declared.kinds.Kind.TheVariants.{False, True, Not, And, Or, Implies, Iff, ForAll, Exists, Equal}
 use Rattle.calculus.specs.declared.step.Step.{Step}
 use Rattle.matching.specs.declared.side.SideFormulas.{SideFormulas}
 use Rattle.matching.specs.declared.side.SideFormulas.TheVariants.{Nothing, One, Two}
 use Rattle.matching.specs.declared.line.Line.{Line}
-use Rattle.matching.specs.Reading.{is, number_of, first_operand, second_operand}
+use Rattle.matching.specs.Reading.{is, has_kind, has_number, number_of, first_operand, second_operand, equates_pairs}
 use Rattle.matching.specs.Sets.{formulas, has_side, same_context, absent}
 
-abbrev pub line_of : Bool → SideFormulas → SideFormulas → SideFormulas → Line
-line_of matches conclusion first second = record { matches = matches; conclusion = conclusion; first = first; second = second; fresh = None }
+-- a row of the table for a step: whether its goals and arguments are those of the rule, and the line that they then have
+pub record Row : Type 0 where
+  pub matches : Bool
+  pub line : Line
 
--- a line whose variable x must not be free in H
-abbrev pub fresh_line : ℕ → Bool → SideFormulas → SideFormulas → Line
-fresh_line x matches conclusion first = record { matches = matches; conclusion = conclusion; first = first; second = Nothing; fresh = Some x }
+abbrev pub row_of : Bool → SideFormulas → SideFormulas → SideFormulas → Row
+row_of matches conclusion first second = record { matches = matches; line = record { conclusion = conclusion; first = first; second = second; fresh = None } }
 
--- the line by which the equation n of two pairs is the equations i and j of their parts
-abbrev pub pair_line : Vocabulary → ℕ → ℕ → ℕ → Bool → SideFormulas → SideFormulas → Line
-pair_line v n i j same conclusion first = line_of (((is v n Equal e f && is v e Pair (first_operand v e) (second_operand v e)) && is v f Pair (first_operand v f) (second_operand v f)) &&
-    ((is v i Equal (first_operand v e) (first_operand v f) && is v j Equal (second_operand v e) (second_operand v f)) && same)) conclusion first Nothing
-  where
-    e : ℕ
-    e = first_operand v n
+-- a row whose variable x must not be free in H
+abbrev pub fresh_row : ℕ → Bool → SideFormulas → SideFormulas → Row
+fresh_row x matches conclusion first = record { matches = matches; line = record { conclusion = conclusion; first = first; second = Nothing; fresh = Some x } }
 
-    f : ℕ
-    f = second_operand v n
+-- the line, where the step has it
+abbrev pub taken : Row → Option Line
+taken r = if r.matches then Some r.line else None
 
 -- what w and z say for the rules that substitute an expression for a variable
 abbrev pub Substitutions : Vocabulary → Rule → Step → ℕ → ℕ → Bool → Bool → Type 0
@@ -60,25 +58,25 @@ Substitutions v EqRL s g p w z = (T w ↔ IsSubstitution v p s.b (first_operand 
 Substitutions v PairL s g p w z = Unit {0}
 Substitutions v PairR s g p w z = Unit {0}
 
--- the line of the step s, whose goal is g and whose premises have the goals p and q; w and z are as in Substitutions
-abbrev pub line : Vocabulary → Rule → Step → ℕ → ℕ → ℕ → Bool → Bool → Line
-line v Hyp s g p q w z = line_of true (One g) Nothing Nothing
-line v Mon s g p q w z = line_of false Nothing Nothing Nothing
-line v Cut s g p q w z = line_of (q == g) Nothing Nothing (One p)
-line v FalseL s g p q w z = line_of false Nothing Nothing Nothing
-line v FalseR s g p q w z = line_of (is v q Not p 0 && is v g False 0 0) Nothing Nothing Nothing
-line v NotL s g p q w z = line_of (is v s.a Not p 0 && is v (number_of v Not g 0) Not g 0) (One s.a) (One (number_of v Not g 0)) Nothing
-line v NotR s g p q w z = line_of (is v g Not (first_operand v g) 0 && is v p False 0 0) Nothing (One (first_operand v g)) Nothing
-line v AndL s g p q w z = line_of (is v s.a And (first_operand v s.a) (second_operand v s.a) && p == g) (One s.a) (Two (first_operand v s.a) (second_operand v s.a)) Nothing
-line v AndR s g p q w z = line_of (is v g And p q) Nothing Nothing Nothing
-line v OrL s g p q w z = line_of ((is v s.a Or (first_operand v s.a) (second_operand v s.a) && p == g) && q == g) (One s.a) (One (first_operand v s.a)) (One (second_operand v s.a))
-line v OrR s g p q w z =
-    line_of (is v g Or (first_operand v g) p && is v (number_of v Not (first_operand v g) 0) Not (first_operand v g) 0) Nothing (One (number_of v Not (first_operand v g) 0)) Nothing
-line v ImpL s g p q w z =
-    line_of (is v s.a Implies (first_operand v s.a) (second_operand v s.a) && p == g) (Two (first_operand v s.a) s.a) (Two (first_operand v s.a) (second_operand v s.a)) Nothing
-line v ImpR s g p q w z = line_of (is v g Implies (first_operand v g) p) Nothing (One (first_operand v g)) Nothing
-line v TrueR s g p q w z = line_of (is v g True 0 0) Nothing Nothing Nothing
-line v EqvL s g p q w z = line_of (((is v s.a Iff x y && is v (number_of v Implies x y) Implies x y) && is v (number_of v Implies y x) Implies y x) && p == g)
+-- the row of the step s, whose goal is g and whose premises have the goals p and q; w and z are as in Substitutions
+abbrev pub row : Vocabulary → Rule → Step → ℕ → ℕ → ℕ → Bool → Bool → Row
+row v Hyp s g p q w z = row_of true (One g) Nothing Nothing
+row v Mon s g p q w z = row_of false Nothing Nothing Nothing
+row v Cut s g p q w z = row_of (q == g) Nothing Nothing (One p)
+row v FalseL s g p q w z = row_of false Nothing Nothing Nothing
+row v FalseR s g p q w z = row_of (is v q Not p 0 && is v g False 0 0) Nothing Nothing Nothing
+row v NotL s g p q w z = row_of (has_number v Not g 0 && is v s.a Not p 0) (One s.a) (One (number_of v Not g 0)) Nothing
+row v NotR s g p q w z = row_of (has_kind v g Not && is v p False 0 0) Nothing (One (first_operand v g)) Nothing
+row v AndL s g p q w z = row_of (has_kind v s.a And && p == g) (One s.a) (Two (first_operand v s.a) (second_operand v s.a)) Nothing
+row v AndR s g p q w z = row_of (is v g And p q) Nothing Nothing Nothing
+row v OrL s g p q w z = row_of (has_kind v s.a Or && (p == g && q == g)) (One s.a) (One (first_operand v s.a)) (One (second_operand v s.a))
+row v OrR s g p q w z =
+    row_of (has_kind v g Or && (has_number v Not (first_operand v g) 0 && p == second_operand v g)) Nothing (One (number_of v Not (first_operand v g) 0)) Nothing
+row v ImpL s g p q w z =
+    row_of (has_kind v s.a Implies && p == g) (Two (first_operand v s.a) s.a) (Two (first_operand v s.a) (second_operand v s.a)) Nothing
+row v ImpR s g p q w z = row_of (has_kind v g Implies && p == second_operand v g) Nothing (One (first_operand v g)) Nothing
+row v TrueR s g p q w z = row_of (is v g True 0 0) Nothing Nothing Nothing
+row v EqvL s g p q w z = row_of (has_kind v s.a Iff && (has_number v Implies x y && (has_number v Implies y x && p == g)))
     (One s.a) (Two (number_of v Implies x y) (number_of v Implies y x)) Nothing
   where
     x : ℕ
@@ -86,30 +84,36 @@ line v EqvL s g p q w z = line_of (((is v s.a Iff x y && is v (number_of v Impli
 
     y : ℕ
     y = second_operand v s.a
-line v EqvR s g p q w z =
-    line_of ((is v g Iff (first_operand v g) (second_operand v g) && is v p Implies (first_operand v g) (second_operand v g)) && is v q Implies (second_operand v g) (first_operand v g)) Nothing Nothing Nothing
-line v AllL s g p q w z = line_of ((is v s.a ForAll (first_operand v s.a) (second_operand v s.a) && w) && p == g) (One s.a) (Two s.a s.c) Nothing
-line v AllR s g p q w z = fresh_line (first_operand v g) (is v g ForAll (first_operand v g) p) Nothing Nothing
-line v XstL s g p q w z =
-    fresh_line (first_operand v s.a) ((is v s.a Exists (first_operand v s.a) (second_operand v s.a) && not (free v (first_operand v s.a) g)) && p == g) (One s.a) (One (second_operand v s.a))
-line v XstR s g p q w z = line_of (is v g Exists (first_operand v g) (second_operand v g) && w) Nothing Nothing Nothing
-line v Eql s g p q w z = line_of (is v g Equal (first_operand v g) (first_operand v g)) Nothing Nothing Nothing
-line v EqLR s g p q w z = line_of (((is_predicate v s.c && is v s.a Equal (first_operand v s.a) (second_operand v s.a)) && w) && z) (One s.a) (One s.a) Nothing
-line v EqRL s g p q w z = line_of (((is_predicate v s.c && is v s.a Equal (first_operand v s.a) (second_operand v s.a)) && w) && z) (One s.a) (One s.a) Nothing
-line v PairL s g p q w z = pair_line v s.a i j (p == g) (One s.a) (Two i j)
+row v EqvR s g p q w z =
+    row_of (has_kind v g Iff && (is v p Implies (first_operand v g) (second_operand v g) && is v q Implies (second_operand v g) (first_operand v g))) Nothing Nothing Nothing
+row v AllL s g p q w z = row_of (has_kind v s.a ForAll && (w && p == g)) (One s.a) (Two s.a s.c) Nothing
+row v AllR s g p q w z = fresh_row (first_operand v g) (has_kind v g ForAll && p == second_operand v g) Nothing Nothing
+row v XstL s g p q w z =
+    fresh_row (first_operand v s.a) (has_kind v s.a Exists && (not (free v (first_operand v s.a) g) && p == g)) (One s.a) (One (second_operand v s.a))
+row v XstR s g p q w z = row_of (has_kind v g Exists && w) Nothing Nothing Nothing
+row v Eql s g p q w z = row_of (has_kind v g Equal && first_operand v g == second_operand v g) Nothing Nothing Nothing
+row v EqLR s g p q w z = row_of (has_kind v s.a Equal && (is_predicate v s.c && (w && z))) (One s.a) (One s.a) Nothing
+row v EqRL s g p q w z = row_of (has_kind v s.a Equal && (is_predicate v s.c && (w && z))) (One s.a) (One s.a) Nothing
+row v PairL s g p q w z = row_of (equates_pairs v s.a && (has_number v Equal e g' && (has_number v Equal f h && p == g)))
+    (One s.a) (Two (number_of v Equal e g') (number_of v Equal f h)) Nothing
   where
     e : ℕ
-    e = first_operand v s.a
+    e = first_operand v (first_operand v s.a)
 
     f : ℕ
-    f = second_operand v s.a
+    f = second_operand v (first_operand v s.a)
 
-    i : ℕ
-    i = number_of v Equal (first_operand v e) (first_operand v f)
+    g' : ℕ
+    g' = first_operand v (second_operand v s.a)
 
-    j : ℕ
-    j = number_of v Equal (second_operand v e) (second_operand v f)
-line v PairR s g p q w z = pair_line v g p q true Nothing Nothing
+    h : ℕ
+    h = second_operand v (second_operand v s.a)
+row v PairR s g p q w z =
+    row_of (equates_pairs v g && (is v p Equal (first_operand v (first_operand v g)) (first_operand v (second_operand v g)) && is v q Equal (second_operand v (first_operand v g)) (second_operand v (second_operand v g)))) Nothing Nothing Nothing
+
+-- the line of the step, where its goals and arguments are those of the rule
+abbrev pub line : Vocabulary → Rule → Step → ℕ → ℕ → ℕ → Bool → Bool → Option Line
+line v r s g p q w z = taken (row v r s g p q w z)
 
 -- each sequent has its side formulas, and all can have one context
 abbrev pub contexts_agree : Line → Seq → List Seq → Bool
@@ -150,6 +154,6 @@ abbrev pub fresh_variables : Option ℕ → List ℕ
 fresh_variables None = []
 fresh_variables (Some x) = x ∷ []
 
--- the line matches, and some context fits it
+-- some context fits the line
 abbrev pub line_fits : Vocabulary → Line → Seq → List Seq → Bool
-line_fits v l s ps = (l.matches && contexts_agree l s ps) && fresh_absent v l.fresh l s ps
+line_fits v l s ps = contexts_agree l s ps && fresh_absent v l.fresh l s ps

@@ -1,6 +1,5 @@
 // Tests on the hypotheses of a sequent and its side formulas.
 ghost use Rattle.std.specs.Prelude.{◌≡◌};
-ghost use Rattle.logic.specs.Rules.{mem};
 ghost use Rattle.vocabulary.specs.View.{model};
 ghost use Rattle.matching.specs.Sets.{has_side, is_side, covered, same_context, absent};
 
@@ -8,25 +7,14 @@ use crate::side::SideFormulas;
 use questions::substitution::is_free;
 use vocabulary::store::Vocabulary;
 
-fn contains(list: &[u16], x: u16) -> bool
-    ensures { result ≡ mem x list.now }
-{
-    for y in list {
-        if x == *y {
-            return true;
-        }
-    }
-    false
-}
-
 // Whether all of the side formulas are in the list.
 pub(crate) fn has_side(side: SideFormulas, list: &[u16]) -> bool
     ensures { result ≡ has_side side list.now }
 {
     match side {
         SideFormulas::Nothing => true,
-        SideFormulas::One(p) => contains(list, p),
-        SideFormulas::Two(p, q) => contains(list, p) & contains(list, q),
+        SideFormulas::One(p) => list.contains(&p),
+        SideFormulas::Two(p, q) => list.contains(&p) && list.contains(&q),
     }
 }
 
@@ -36,7 +24,7 @@ fn is_side(side: SideFormulas, x: u16) -> bool
     match side {
         SideFormulas::Nothing => false,
         SideFormulas::One(p) => x == p,
-        SideFormulas::Two(p, q) => (x == p) | (x == q),
+        SideFormulas::Two(p, q) => x == p || x == q,
     }
 }
 
@@ -44,33 +32,19 @@ fn is_side(side: SideFormulas, x: u16) -> bool
 pub fn covered(side: SideFormulas, xs: &[u16], ys: &[u16]) -> bool
     ensures { result ≡ covered side xs.now ys.now }
 {
-    for x in xs {
-        let beside = is_side(side, *x);
-        let among = contains(ys, *x);
-        if !(beside | among) {
-            return false;
-        }
-    }
-    true
+    xs.iter().all(|x| is_side(side, *x) || ys.contains(x))
 }
 
 // Whether two lists, with the side formulas c and d, can have one context.
 pub(crate) fn same_context(c: SideFormulas, xs: &[u16], d: SideFormulas, ys: &[u16]) -> bool
     ensures { result ≡ same_context c xs.now d ys.now }
 {
-    covered(c, xs, ys) & covered(d, ys, xs)
+    covered(c, xs, ys) && covered(d, ys, xs)
 }
 
 // Whether x is free in nothing that the list has beside the side formulas.
 pub(crate) fn absent(v: &Vocabulary, x: u16, side: SideFormulas, list: &[u16]) -> bool
     ensures { result ≡ absent (model v.now) x side list.now }
 {
-    for n in list {
-        let beside = is_side(side, *n);
-        let free = is_free(v, x, *n);
-        if !(beside | !free) {
-            return false;
-        }
-    }
-    true
+    list.iter().all(|n| is_side(side, *n) || !is_free(v, x, *n))
 }

@@ -1,6 +1,7 @@
 -- Freeness and substitution, from what is found at the operands.
-use Rattle.std.proofs.Common.{◌≡◌, ℕ, Bool, true, false, cond, not, ◌&&◌, ◌||◌, T, eqb, ◌↔◌, Some, None, sym, refl, ap, ◌∙◌, subst, ap₂, inl, inr, ⊎_elim, eqb→eq, ltb→lt, lt→ltb, T_not}
+use Rattle.std.proofs.Common.{◌≡◌, ℕ, Bool, true, false, cond, not, ◌&&◌, ◌||◌, T, eqb, ◌↔◌, Some, sym, refl, ap, ◌∙◌, subst, ap₂, inl, inr, ⊎_elim, eqb→eq, ltb→lt, lt→ltb, T_not, arith}
 use lib.Dec.{eqb_refl}
+use Rattle.std.specs.Bool.{then_some}
 use Rattle.logic.specs.Formulas.{and, or, implies, iff, forall, exists, Shape, variable, pair, falsity, truth, negation, join, bind, equal, member, through, Vocabulary, node, free, free_layer, Substituted, SubstitutedLayer, IsReplaced, variable_type, Falling, WellFormed, IsSubstitution}
 use Rattle.logic.specs.Meanings.{Valued}
 use Rattle.logic.proofs.Typing.{values_typed}
@@ -14,7 +15,7 @@ use Rattle.formulas.specs.declared.records.Record.{Record}
 use Rattle.formulas.specs.declared.kinds.Role.{Role}
 use Rattle.formulas.specs.declared.kinds.Role.TheVariants.{Nothing, AVariable, Expression, Predicate, ASetName}
 use Rattle.formulas.specs.Kinds.{kind_number, first_role, second_role, is_formula}
-use Rattle.std.proofs.lemmas.Bool.{true≢false, false≢true, cond-true}
+use Rattle.std.proofs.lemmas.Bool.{true≢false, false≢true}
 use Rattle.formulas.specs.Records.{shape, record_of, entry}
 use Rattle.vocabulary.specs.Calls.{knows_variable}
 use Rattle.questions.specs.Leaves.{free_from, substituted_under, Replaced}
@@ -222,10 +223,7 @@ substituted_decided v wf q x e p t u known var expression put ek el ee et eu ep 
         (and_both expression (eqb t u && put) (subst T (sym ee) d.0)
         (and_both (eqb t u) put (subst (λ n. T (eqb n u)) (sym same) (eqb_refl u)) (ep.1 s))))
 
--- the type that is answered, and that the expression's value is one of its
-pub type_answered : (v : Vocabulary) → WellFormed v → (n k : ℕ) → is_expression v n ≡ true → k ≡ type_of v n →
-    (Some k ≡ cond (is_expression v n) (Some (type_of v n)) None) × ((t : ℕ) → Some k ≡ Some t → Valued v n t)
-type_answered v wf n k e h = (
-  ap Some h ∙ sym (cond-true (is_expression v n) (Some (type_of v n)) None e),
-  λ t i. let same : k ≡ t = cc in values_typed v wf n t ((types_decided v wf n t).1 (is_so _ e, sym h ∙ same)),
-)
+-- the value of an expression is one of the type that is answered
+pub type_answered : (v : Vocabulary) → WellFormed v → (n k t : ℕ) (b : Bool) → b ≡ is_expression v n → k ≡ type_of v n → then_some b k ≡ Some t → Valued v n t
+type_answered v wf n k t true e h i = let same : k ≡ t = cc in values_typed v wf n t ((types_decided v wf n t).1 (is_so _ (sym e), sym h ∙ same))
+type_answered v wf n k t false e h i = let z : ◌≡◌ {A = ℕ} 0 1 = cc in absurd (omega arith)

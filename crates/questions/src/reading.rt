@@ -1,4 +1,4 @@
-// What a vocabulary has of a formula.
+// What a vocabulary has of a formula. Functions and no methods: the store's crate is below this one.
 ghost use Rattle.std.specs.Prelude.{◌≡◌, ℕ, if◌then◌else◌, Some, None};
 ghost use Rattle.logic.specs.Deciding.{is_expression, knows_formula, type_of};
 ghost use Rattle.logic.specs.Formulas.{node, weight, depth};
@@ -13,40 +13,26 @@ use vocabulary::store::Vocabulary;
 pub fn formula(v: &Vocabulary, n: u16) -> Option<Record>
     ensures { result ≡ (if knows_formula (model v.now) n then Some (record_of (node (model v.now) n)) else None) }
 {
-    if v.knows_formula(n) {
-        Some(v.record(n))
-    } else {
-        None
-    }
+    v.knows_formula(n).then_some(v.record(n))
 }
 
 // Whether n is the number of a formula with the record r.
 pub fn has_record(v: &Vocabulary, n: u16, r: Record) -> bool
     ensures { result ≡ has_record (model v.now) n r }
 {
-    let known = v.knows_formula(n);
-    let same = r.same(v.record(n));
-    known & same
+    v.knows_formula(n) && v.record(n) == r
 }
 
 pub fn weight_of(v: &Vocabulary, n: u16) -> Option<u16>
     ensures { result ≡ (if knows_formula (model v.now) n then Some (weight (model v.now) n) else None) }
 {
-    if v.knows_formula(n) {
-        Some(v.facts_at(n).weight)
-    } else {
-        None
-    }
+    v.knows_formula(n).then_some(v.facts_at(n).weight)
 }
 
 pub fn depth_of(v: &Vocabulary, n: u16) -> Option<u16>
     ensures { result ≡ (if knows_formula (model v.now) n then Some (depth (model v.now) n) else None) }
 {
-    if v.knows_formula(n) {
-        Some(v.facts_at(n).depth)
-    } else {
-        None
-    }
+    v.knows_formula(n).then_some(v.facts_at(n).depth)
 }
 
 // The type of an expression; its value is one of that type's.
@@ -54,9 +40,5 @@ pub fn type_of(v: &Vocabulary, n: u16) -> Option<u16>
     ensures answer { result ≡ (if is_expression (model v.now) n then Some (type_of (model v.now) n) else None) }
     ensures law { (t : ℕ) → result ≡ Some t → Valued (model v.now) n t }
 {
-    if v.is_expression(n) {
-        Some(v.facts_at(n).ty)
-    } else {
-        None
-    }
+    v.is_expression(n).then_some(v.facts_at(n).ty)
 }

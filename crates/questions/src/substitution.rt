@@ -5,6 +5,7 @@ ghost use Rattle.logic.specs.Meanings.{Independent, MeansWith};
 ghost use Rattle.questions.specs.Leaves.{free_from, substituted_under};
 ghost use Rattle.vocabulary.specs.View.{model};
 
+use formulas::kinds::Kind;
 use formulas::records::Record;
 use vocabulary::store::Vocabulary;
 
@@ -19,7 +20,8 @@ pub fn is_free(v: &Vocabulary, x: u16, n: u16) -> bool
     free_from(x, r, first, second)
 }
 
-// Whether q is p with e for x, where x is free in p, which has the record r; s is q's record.
+// Whether q is p with e for x, where x is free in p, which has the record r; s is q's record. What the operands answered comes as
+// two parameters: a struct of them would be taken apart in the next line.
 fn substituted_under(
     v: &Vocabulary,
     e: u16,
@@ -31,12 +33,10 @@ fn substituted_under(
 ) -> bool
     ensures { result ≡ substituted_under (model v.now) e r s q first second }
 {
-    if r.kind.is_variable() {
-        q == e
-    } else if r.kind.is_binder() && is_free(v, r.a, e) {
-        false
-    } else {
-        s.kind.number() == r.kind.number() && first && second
+    match r.kind {
+        Kind::Variable => q == e,
+        Kind::ForAll | Kind::Exists if is_free(v, r.a, e) => false,
+        _ => s.kind == r.kind && first && second,
     }
 }
 
@@ -80,11 +80,9 @@ pub fn is_substitution(v: &Vocabulary, q: u16, p: u16, x: u16, e: u16) -> bool
 fn free_from(x: u16, r: Record, first: bool, second: bool) -> bool
     ensures { result ≡ free_from x r first second }
 {
-    if r.kind.is_variable() {
-        x == r.a
-    } else if r.kind.is_binder() {
-        x != r.a && second
-    } else {
-        first || second
+    match r.kind {
+        Kind::Variable => x == r.a,
+        Kind::ForAll | Kind::Exists => x != r.a && second,
+        _ => first || second,
     }
 }

@@ -2,8 +2,6 @@
 ghost use Rattle.questions.specs.Example.{WorkedExample};
 
 // The worked example, entered and asked about.
-pub fn worked_example_stands() -> u8
+pub fn worked_example_stands()
     ensures { WorkedExample }
-{
-    0
-}
+{}

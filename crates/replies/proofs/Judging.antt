@@ -1,6 +1,5 @@
 -- What the checker answered, as a reply.
-use Rattle.std.proofs.Common.{◌≡◌, ℕ, ◌↔◌, List, is_ok, Ok, Err, Decides, Result, refl, ap, ap₂, inl, inr, arith}
-use Rattle.formulas.specs.declared.refusals.Notice.{Notice}
+use Rattle.std.proofs.Common.{◌≡◌, ℕ, ◌↔◌, List, is_ok, Ok, Err, Decides, Result, refl, ap, ap₂, inl, inr}
 use Rattle.calculus.specs.declared.refusal.Fault.{Fault}
 use Rattle.calculus.specs.declared.refusal.Refusal.{Refusal}
 use Rattle.calculus.specs.declared.sequent.Sequent.{Sequent}
@@ -10,7 +9,7 @@ use Rattle.calculus.specs.Refusals.{notice}
 use Rattle.calculus.proofs.Verdicts.{one_number}
 use Rattle.rules.specs.Theories.{standard}
 use Rattle.replies.specs.declared.reply.Reply.{Reply}
-use Rattle.replies.specs.declared.reply.Reply.TheVariants.{Right, Refused}
+use Rattle.replies.specs.declared.reply.Reply.TheVariants.{Refused}
 use Rattle.book.specs.Books.{Model}
 use Rattle.replies.specs.Books.{verdict, Verdict}
 
@@ -25,26 +24,17 @@ same_refusal d e h = one_notice d e (cc)
 same_error : (d e : Refusal) → ◌≡◌ {A = Result Sequent Refusal} (Err d) (Err e) → d ≡ e
 same_error d e h = cc
 
-right_not_refused : {P : Type 0} (n : Notice) → Right ≡ Refused n → P
-right_not_refused n h = let z : ◌≡◌ {A = ℕ} 0 1 = cc in absurd (omega arith)
-
-refused_not_right : {P : Type 0} (n : Notice) → Refused n ≡ Right → P
-refused_not_right n h = let z : ◌≡◌ {A = ℕ} 0 1 = cc in absurd (omega arith)
-
-accepted_not_refused : {P : Type 0} (s : Sequent) (e : Refusal) → ◌≡◌ {A = Result Sequent Refusal} (Ok s) (Err e) → P
-accepted_not_refused s e h = let z : ◌≡◌ {A = ℕ} 0 1 = cc in absurd (omega arith)
-
 module _ (b : Model) (xs : List Step) (hs : List ℕ) where
   pub judged : (o : Result Sequent Refusal) → Decides (is_ok o) (RightDerivation standard b.vocabulary xs hs) → ((e : Refusal) → (o ≡ Err e) ↔ FirstFault e standard b.vocabulary xs hs) → Verdict b xs hs (verdict o)
   judged (Ok s) a f =
       record {
         either = inl refl;
         right = (λ _. a.0 refl, λ _. refl);
-        refused = λ e. (λ h. right_not_refused (notice e) h, λ g. accepted_not_refused s e ((f e).1 g));
+        refused = λ e. (λ h. cc, λ g. let z = (f e).1 g in cc);
       }
   judged (Err d) a f =
       record {
         either = inr (d, refl);
-        right = (λ h. refused_not_right (notice d) h, λ r. let t = a.1 r in let z : ◌≡◌ {A = ℕ} 0 1 = cc in absurd (omega arith));
+        right = (λ h. cc, λ r. let t = a.1 r in cc);
         refused = λ e. (λ h. (f e).0 (ap Err (same_refusal d e h)), λ g. ap (λ k. Refused (notice k)) (same_error d e ((f e).1 g)));
       }

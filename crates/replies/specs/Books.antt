@@ -2,6 +2,7 @@
 use Rattle.std.specs.Prelude.{◌≡◌, ℕ, Bool, true, false, T, ◌⊎◌, ◌↔◌, List, Some, None, Ok, Err, Option, Result}
 use Rattle.logic.specs.Formulas.{free, IsSubstitution}
 use Rattle.formulas.specs.declared.calls.Call.TheVariants.{NewCarrier, NewProduct, NewVariable, NewSetName, EnterFormula}
+use Rattle.formulas.specs.declared.refusals.Notice.{Notice}
 use Rattle.formulas.specs.declared.refusals.Refusal.{Refusal as NotEntered}
 use Rattle.formulas.specs.Refusals as vocabulary
 use Rattle.calculus.specs.declared.refusal.Refusal as faults
@@ -22,6 +23,11 @@ use Rattle.replies.specs.declared.reply.Reply.{Reply}
 use Rattle.replies.specs.declared.reply.Reply.TheVariants.{Numbered, Yes, No, Right, Refused, NoEntry}
 use Rattle.replies.specs.declared.reply.Reply.TheVariants as replies
 
+-- what is told, or the notice of a refusal
+abbrev pub told_or_refused : Result Reply Notice → Reply
+told_or_refused (Ok r) = r
+told_or_refused (Err n) = Refused n
+
 -- a call is granted, and answers a number, or is refused
 abbrev pub granted : Thing → Result ℕ NotEntered → Reply
 granted t (Ok n) = Numbered t n
@@ -36,10 +42,13 @@ abbrev pub told : Result EntryFacts Refusal → Reply
 told (Ok f) = replies.Entry f
 told (Err e) = Refused (notice e)
 
-abbrev pub found : Result (Option ℕ) Refusal → Reply
-found (Ok (Some n)) = Numbered things.Entry n
-found (Ok None) = NoEntry
-found (Err e) = Refused (notice e)
+abbrev pub found : Option ℕ → Reply
+found (Some n) = Numbered things.Entry n
+found None = NoEntry
+
+abbrev pub found_or_refused : Result (Option ℕ) Refusal → Reply
+found_or_refused (Ok o) = found o
+found_or_refused (Err e) = Refused (notice e)
 
 abbrev pub said : Bool → Reply
 said true = Yes
@@ -60,7 +69,7 @@ Answers b (Free x n) r = Says r (T (free b.vocabulary x n))
 Answers b (Substitution q p x e) r = Says r (IsSubstitution b.vocabulary q x e p)
 Answers b (Give p) r = r ≡ entered (give b p).answer
 Answers b (Entry e) r = r ≡ told (ask_entry b e)
-Answers b (Predicate p) r = r ≡ found (ask_predicate b p)
+Answers b (Predicate p) r = r ≡ found_or_refused (ask_predicate b p)
 
 -- the book after a call
 abbrev pub after : Model → Call → Model

@@ -1,9 +1,9 @@
 // A hold in hand.
-ghost use Rattle.std.specs.Prelude.{◌≡◌};
+ghost use Rattle.std.specs.Prelude.{◌≡◌, Some, None};
 ghost use Rattle.states.specs.Refusals.{notice};
 ghost use Rattle.book.specs.Holds.{hold_again};
 ghost use Rattle.book.specs.View.{model};
-ghost use Rattle.replies.specs.Hands.{foretold, undergo};
+ghost use Rattle.replies.specs.Hands.{foretold, held, undergo};
 ghost use Rattle.commands.specs.declared.command.HoldCall.TheVariants.{Preview, Lift, Withdraw};
 
 use crate::reply::Reply;
@@ -12,32 +12,21 @@ use commands::command::HoldCall;
 use states::refusal::Refusal;
 use std::mem;
 
-// A hold, with the place of the book that granted it; or that it was ended.
-pub enum InHand {
-    Held { hold: Hold, granted_by: usize },
-    Ended,
+// A hold, with the place of the book that granted it: two books may have one number.
+pub struct Held {
+    pub hold: Hold,
+    pub granted_by: usize,
 }
 
-// Puts a hold back in the place that it was taken from.
-fn put_back(place: &mut InHand, hold: Hold, granted_by: usize)
-    requires { place.old ≡ InHand.Ended }
-    ensures { place.new ≡ InHand.Held hold granted_by }
-{
-    match mem::replace(place, InHand::Held { hold, granted_by }) {
-        InHand::Ended => (),
-        InHand::Held { .. } => unreachable(),
-    }
-}
-
-// Puts back a hold whose end was refused.
-fn keep(place: &mut InHand, refused: Refused, granted_by: usize) -> Reply
-    requires { place.old ≡ InHand.Ended }
-    ensures answer { result ≡ Reply.Refused (notice refused.refusal) }
-    ensures hand { place.new ≡ InHand.Held (hold_again refused.hold) granted_by }
+// A hold whose end was refused stays in hand.
+fn keep(refused: Refused, granted_by: usize) -> (Reply, Option<Held>)
+    ensures answer { result.0 ≡ Reply.Refused (notice refused.refusal) }
+    ensures hand { result.1 ≡ Some (held (hold_again refused.hold) granted_by) }
 {
     let Refused { refusal, hold } = refused;
-    put_back(place, hold.into_hold(), granted_by);
-    Reply::Refused(refusal.notice())
+    let hold = hold.into_hold();
+    let hand = Some(Held { hold, granted_by });
+    (Reply::Refused(refusal.into()), hand)
 }
 
 fn foretold(answer: Result<(u16, u16), Refusal>) -> Reply
@@ -45,66 +34,83 @@ fn foretold(answer: Result<(u16, u16), Refusal>) -> Reply
 {
     match answer {
         Ok((count, lowest)) => Reply::Falls(count, lowest),
-        Err(refusal) => Reply::Refused(refusal.notice()),
+        Err(refusal) => Reply::Refused(refusal.into()),
     }
 }
 
-impl InHand {
+// Each answers what a call does with the hold, and what is then in hand.
+impl Held {
     // What a withdrawal would answer.
-    fn preview(&mut self, book: &Book) -> Reply
-        ensures answer { result ≡ (undergo Preview (model book.now) self.old).reply }
-        ensures hand { self.new ≡ (undergo Preview (model book.now) self.old).hand }
+    fn preview(self, book: &Book) -> (Reply, Option<Held>)
+        ensures answer { result.0 ≡ (undergo Preview (model book.now) (Some self)).reply }
+        ensures hand { result.1 ≡ (undergo Preview (model book.now) (Some self)).hand }
     {
-        match mem::replace(self, InHand::Ended) {
-            InHand::Ended => Reply::NoSuchHold,
-            InHand::Held { hold, granted_by } => {
-                let (answer, hold) = book.preview(hold);
-                put_back(self, hold, granted_by);
-                foretold(answer)
-            }
+        let Held { hold, granted_by } = self;
+        let (answer, hold) = book.preview(hold);
+        (foretold(answer), Some(Held { hold, granted_by }))
+    }
+
+    // Lifts a hold. This and `withdraw` differ in the call and in what it is told as; a closure for both would say less.
+    fn lift(self, book: &mut Book) -> (Reply, Option<Held>)
+        ensures answer { result.0 ≡ (undergo Lift (model book.old) (Some self)).reply }
+        ensures hand { result.1 ≡ (undergo Lift (model book.old) (Some self)).hand }
+        ensures book { model book.new ≡ (undergo Lift (model book.old) (Some self)).book }
+    {
+        let Held { hold, granted_by } = self;
+        match book.lift(hold) {
+            Ok(()) => (Reply::Lifted, None),
+            Err(refused) => keep(refused, granted_by),
         }
     }
 
-    // Lifts a hold, which stays in hand where that is refused.
-    fn lift(&mut self, book: &mut Book) -> Reply
-        ensures answer { result ≡ (undergo Lift (model book.old) self.old).reply }
-        ensures hand { self.new ≡ (undergo Lift (model book.old) self.old).hand }
-        ensures book { model book.new ≡ (undergo Lift (model book.old) self.old).book }
+    // Withdraws the rule that is held.
+    fn withdraw(self, book: &mut Book) -> (Reply, Option<Held>)
+        ensures answer { result.0 ≡ (undergo Withdraw (model book.old) (Some self)).reply }
+        ensures hand { result.1 ≡ (undergo Withdraw (model book.old) (Some self)).hand }
+        ensures book { model book.new ≡ (undergo Withdraw (model book.old) (Some self)).book }
     {
-        match mem::replace(self, InHand::Ended) {
-            InHand::Ended => Reply::NoSuchHold,
-            InHand::Held { hold, granted_by } => match book.lift(hold) {
-                Ok(()) => Reply::Lifted,
-                Err(refused) => keep(self, refused, granted_by),
-            },
+        let Held { hold, granted_by } = self;
+        match book.withdraw(hold) {
+            Ok((count, lowest)) => (Reply::Fell(count, lowest), None),
+            Err(refused) => keep(refused, granted_by),
         }
     }
 
-    // Withdraws the rule that is held; the hold stays in hand where that is refused.
-    fn withdraw(&mut self, book: &mut Book) -> Reply
-        ensures answer { result ≡ (undergo Withdraw (model book.old) self.old).reply }
-        ensures hand { self.new ≡ (undergo Withdraw (model book.old) self.old).hand }
-        ensures book { model book.new ≡ (undergo Withdraw (model book.old) self.old).book }
+    fn undergo(self, call: HoldCall, book: &mut Book) -> (Reply, Option<Held>)
+        ensures answer { result.0 ≡ (undergo call (model book.old) (Some self)).reply }
+        ensures hand { result.1 ≡ (undergo call (model book.old) (Some self)).hand }
+        ensures book { model book.new ≡ (undergo call (model book.old) (Some self)).book }
     {
-        match mem::replace(self, InHand::Ended) {
-            InHand::Ended => Reply::NoSuchHold,
-            InHand::Held { hold, granted_by } => match book.withdraw(hold) {
-                Ok((count, lowest)) => Reply::Fell(count, lowest),
-                Err(refused) => keep(self, refused, granted_by),
-            },
-        }
-    }
-
-    // What a call does with the hold, on a book.
-    pub fn undergo(&mut self, call: HoldCall, book: &mut Book) -> Reply
-        ensures answer { result ≡ (undergo call (model book.old) self.old).reply }
-        ensures hand { self.new ≡ (undergo call (model book.old) self.old).hand }
-        ensures book { model book.new ≡ (undergo call (model book.old) self.old).book }
-    {
+        // A call is data, which a script writes.
         match call {
             HoldCall::Preview => self.preview(book),
             HoldCall::Lift => self.lift(book),
             HoldCall::Withdraw => self.withdraw(book),
         }
     }
+}
+
+// Puts what is in hand into a place that nothing is in. A hold is not let go, so the place is not written over.
+fn put(place: &mut Option<Held>, hand: Option<Held>)
+    requires { place.old ≡ None }
+    ensures { place.new ≡ hand }
+{
+    match mem::replace(place, hand) {
+        None => (),
+        Some(_) => unreachable(),
+    }
+}
+
+// What a call does with the hold in this place, if there is one, on a book.
+pub fn undergo(place: &mut Option<Held>, call: HoldCall, book: &mut Book) -> Reply
+    ensures answer { result ≡ (undergo call (model book.old) place.old).reply }
+    ensures hand { place.new ≡ (undergo call (model book.old) place.old).hand }
+    ensures book { model book.new ≡ (undergo call (model book.old) place.old).book }
+{
+    let Some(held) = place.take() else {
+        return Reply::NoSuchHold;
+    };
+    let (reply, hand) = held.undergo(call, book);
+    put(place, hand);
+    reply
 }

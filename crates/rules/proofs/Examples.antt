@@ -1,5 +1,5 @@
 -- The worked derivations, computed.
-use Rattle.std.proofs.Common.{◌≡◌, ℕ, zero, suc, ◌+◌, ◌<◌, Bool, true, not, ◌&&◌, T, ltb, List, [], ◌∷◌, sym, refl, ap, ◌∙◌, subst, inl, inr, ⊎_elim, arith, lit<, lit≤, ltb→lt}
+use Rattle.std.proofs.Common.{◌≡◌, ℕ, zero, suc, ◌+◌, ◌<◌, Bool, true, not, ◌&&◌, T, ltb, List, [], ◌∷◌, sym, refl, subst, inl, inr, ⊎_elim, arith, lit<, lit≤, ltb→lt}
 use Rattle.std.specs.List.{AllZip, AllByRecursion}
 use Rattle.logic.specs.Formulas.{forall, bind, node, free, ask, descend}
 use Rattle.logic.specs.Examples.{example}
@@ -19,9 +19,8 @@ use Rattle.calculus.specs.declared.step.Step.{Step}
 use Rattle.calculus.specs.Rising.{Rising}
 use Rattle.questions.proofs.Reckoned as vocabulary
 use Rattle.rules.specs.Examples.{right_steps, right_list, wrong_steps, wrong_list, WorkedExample}
-use Rattle.rules.specs.Tables.{rule_of}
 use Rattle.rules.specs.Theories.{standard}
-use Rattle.rules.specs.TablesLemmas.{rule_of_number}
+use Rattle.rules.specs.TablesLemmas.{one_number}
 
 abbrev rises : List ℕ → Bool
 rises [] = true
@@ -109,7 +108,7 @@ wrong_right zero h = right_by wrong_steps wrong_list 0 (at wrong_steps 0) (lit�
 wrong_right (suc i) h = absurd (omega arith)
 
 not_judged : Judged standard example wrong_steps wrong_list (at wrong_steps 1) → ⊥
-not_judged (t, d) = no_step (subst (λ (r : Rule). Instance example r 0 0 0 ((1 ∷ [] ⊢ 1) ∷ []) (1 ∷ [] ⊢ 9)) (sym (rule_of_number d.0) ∙ ap rule_of d.1) d.2)
+not_judged (t, d) = no_step (subst (λ (r : Rule). Instance example r 0 0 0 ((1 ∷ [] ⊢ 1) ∷ []) (1 ∷ [] ⊢ 9)) (one_number d.0 AllR d.1) d.2)
 
 wrong_before : (f : Fault) → number f < 25 → Passes f standard example wrong_steps wrong_list 1 (at wrong_steps 1)
 wrong_before Size l = tt

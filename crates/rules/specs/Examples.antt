@@ -6,7 +6,7 @@ use Rattle.calculus.specs.declared.refusal.Fault.TheVariants.{NoInstance}
 use Rattle.calculus.specs.declared.step.Step.{Step}
 use Rattle.calculus.specs.Derivations.{root, RightDerivation, FirstFault}
 use Rattle.questions.specs.Example as vocabulary
-use Rattle.rules.specs.Tables.{number}
+use Rattle.logic.specs.Numbers.{number}
 use Rattle.rules.specs.Theories.{standard}
 use Rattle.logic.specs.declared.rule.Rule.{Rule}
 use Rattle.logic.specs.declared.rule.Rule.TheVariants.{Hyp, ImpL, AllL, AllR}

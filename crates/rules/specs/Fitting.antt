@@ -1,40 +1,45 @@
 -- The tests on sets decide whether some H fits a line.
-use Rattle.std.specs.Prelude.{◌≡◌, ℕ, ◌≤◌, Bool, true, false, not, ◌&&◌, ◌||◌, T, List, [], ◌∷◌, ◌++◌, length, Some, None, Decides, Option, ◌==◌, ◌≢◌, refl}
+use Rattle.std.specs.Prelude.{◌≡◌, ℕ, ◌≤◌, Bool, true, not, ◌&&◌, ◌||◌, T, List, [], ◌∷◌, ◌++◌, length, Some, None, Decides, Option, ◌==◌, refl}
 use Rattle.std.proofs.Common.{sym, subst, inl, inr, ⊎_elim, arith}
-use Rattle.std.proofs.lemmas.Bool.{and_parts, and_from, or_cases, or_left, or_right, eqb-true, eq-eqb, true≢false, false≢true}
+use Rattle.std.proofs.lemmas.Bool.{and_parts, and_from, or_cases, or_left, or_right, eqb-true, eq-eqb, false≢true}
 use Rattle.std.proofs.lemmas.Bool.Decides.{Decides-and, Decides-like}
 use Rattle.logic.specs.Formulas.{In, Vocabulary, free}
 use Rattle.logic.proofs.Soundness.{true_at, true_from}
-use Rattle.std.specs.List.{AllByRecursion}
+use Rattle.std.specs.List.{AllByRecursion, list_all, list_any}
 use Rattle.logic.specs.Meanings.{Sequent as Seq}
-use Rattle.logic.specs.Rules.{Absent, Subset, mem, minus, least, fits}
+use Rattle.logic.specs.Rules.{Absent, Subset, minus, least, fits}
 use Rattle.logic.proofs.Tests.{is_true, is_so}
 use Rattle.logic.proofs.Typing.{in_left, in_right}
-use Rattle.logic.proofs.Comparing.{mem_in, not_in, mem_of, minus_from, minus_to, in_either, fits_of, fits_by}
+use Rattle.logic.proofs.Comparing.{mem_in, not_in, minus_from, minus_to, in_either, fits_of, fits_by}
 use Rattle.matching.specs.declared.side.SideFormulas.{SideFormulas}
 use Rattle.matching.specs.declared.side.SideFormulas.TheVariants.{Nothing, One, Two}
 use Rattle.matching.specs.declared.line.Line.{Line}
-use Rattle.matching.specs.Sets.{formulas, has_side, is_side, every, covered, same_context, absent}
+use Rattle.matching.specs.Sets.{formulas, has_side, is_side, among, covered, same_context, absent}
 use Rattle.matching.specs.Lines.{contexts_agree, above, below, absent_from_all, fresh_absent, fresh_variables}
 
-not_T : (b : Bool) → T (not b) → b ≢ true
-not_T true t e = t
-not_T false t e = true≢false (sym e)
+pub any_from_in : (f : ℕ → Bool) (ns : List ℕ) (n : ℕ) → In n ns → f n ≡ true → list_any f ns ≡ true
+any_from_in f [] n i h = absurd i
+any_from_in f (m ∷ ns) n (inl e) h = or_left (f m) (list_any f ns) (subst (λ (k : ℕ). f k ≡ true) e h)
+any_from_in f (m ∷ ns) n (inr i) h = or_right (f m) (list_any f ns) (any_from_in f ns n i h)
 
-pub mem_true : (n : ℕ) (ms : List ℕ) → In n ms → mem n ms ≡ true
-mem_true n ms i = is_true (mem n ms) (mem_of n ms i)
+pub in_from_any : (f : ℕ → Bool) (ns : List ℕ) → list_any f ns ≡ true → (n : ℕ) × In n ns × (f n ≡ true)
+in_from_any f [] h = absurd (false≢true h)
+in_from_any f (m ∷ ns) h = ⊎_elim (λ e. (m, inl refl, e)) (λ e. let d = in_from_any f ns e in (d.0, inr d.1, d.2)) (or_cases (f m) (list_any f ns) h)
 
-pub mem_in_true : (n : ℕ) (ms : List ℕ) → mem n ms ≡ true → In n ms
-mem_in_true n ms e = ⊎_elim (λ i. i) (λ t. absurd (not_T (mem n ms) t e)) (mem_in n ms)
+among_from_in : (n : ℕ) (ms : List ℕ) → In n ms → among n ms ≡ true
+among_from_in n ms i = any_from_in (λ m. m == n) ms n i (eq-eqb n n refl)
 
-pub every_at : (f : ℕ → Bool) (ns : List ℕ) → every f ns ≡ true → (n : ℕ) → In n ns → f n ≡ true
-every_at f [] h n i = absurd i
-every_at f (m ∷ ns) h n (inl e) = subst (λ (k : ℕ). f k ≡ true) (sym e) (and_parts (f m) (every f ns) h).0
-every_at f (m ∷ ns) h n (inr i) = every_at f ns (and_parts (f m) (every f ns) h).1 n i
+in_from_among : (n : ℕ) (ms : List ℕ) → among n ms ≡ true → In n ms
+in_from_among n ms h = let (m, i, e) = in_from_any (λ m. m == n) ms h in subst (λ (k : ℕ). In k ms) (eqb-true m n e) i
 
-pub every_of : (f : ℕ → Bool) (ns : List ℕ) → ((n : ℕ) → In n ns → f n ≡ true) → every f ns ≡ true
-every_of f [] h = refl
-every_of f (m ∷ ns) h = and_from (f m) (every f ns) (h m (inl refl)) (every_of f ns (λ n i. h n (inr i)))
+all_at : (f : ℕ → Bool) (ns : List ℕ) → list_all f ns ≡ true → (n : ℕ) → In n ns → f n ≡ true
+all_at f [] h n i = absurd i
+all_at f (m ∷ ns) h n (inl e) = subst (λ (k : ℕ). f k ≡ true) (sym e) (and_parts (f m) (list_all f ns) h).0
+all_at f (m ∷ ns) h n (inr i) = all_at f ns (and_parts (f m) (list_all f ns) h).1 n i
+
+all_of : (f : ℕ → Bool) (ns : List ℕ) → ((n : ℕ) → In n ns → f n ≡ true) → list_all f ns ≡ true
+all_of f [] h = refl
+all_of f (m ∷ ns) h = and_from (f m) (list_all f ns) (h m (inl refl)) (all_of f ns (λ n i. h n (inr i)))
 
 side_in : (e : SideFormulas) (n : ℕ) → is_side e n ≡ true → In n (formulas e)
 side_in Nothing n h = absurd (false≢true h)
@@ -51,19 +56,19 @@ in_side (Two p q) n (inr (inr i)) = absurd i
 
 has_side_side_is : (e : SideFormulas) (ns : List ℕ) → Decides (has_side e ns) (Subset (formulas e) ns)
 has_side_side_is Nothing ns = (λ _ n i. absurd i, λ _. refl)
-has_side_side_is (One p) ns = (λ h n. ⊎_elim (λ e. subst (λ (k : ℕ). In k ns) (sym e) (mem_in_true p ns h)) (λ i. absurd i), λ f. mem_true p ns (f p (inl refl)))
+has_side_side_is (One p) ns = (λ h n. ⊎_elim (λ e. subst (λ (k : ℕ). In k ns) (sym e) (in_from_among p ns h)) (λ i. absurd i), λ f. among_from_in p ns (f p (inl refl)))
 has_side_side_is (Two p q) ns = (
-  λ h n. let d = and_parts (mem p ns) (mem q ns) h in
-      ⊎_elim (λ e. subst (λ (k : ℕ). In k ns) (sym e) (mem_in_true p ns d.0)) (⊎_elim (λ e. subst (λ (k : ℕ). In k ns) (sym e) (mem_in_true q ns d.1)) (λ i. absurd i)),
-  λ f. and_from (mem p ns) (mem q ns) (mem_true p ns (f p (inl refl))) (mem_true q ns (f q (inr (inl refl)))),
+  λ h n. let d = and_parts (among p ns) (among q ns) h in
+      ⊎_elim (λ e. subst (λ (k : ℕ). In k ns) (sym e) (in_from_among p ns d.0)) (⊎_elim (λ e. subst (λ (k : ℕ). In k ns) (sym e) (in_from_among q ns d.1)) (λ i. absurd i)),
+  λ f. and_from (among p ns) (among q ns) (among_from_in p ns (f p (inl refl))) (among_from_in q ns (f q (inr (inl refl)))),
 )
 
 pub covered_is : (e : SideFormulas) (ns ms : List ℕ) → Decides (covered e ns ms) (Subset (minus ns (formulas e)) ms)
 covered_is e ns ms = (
   λ h n i. let d = minus_from n ns (formulas e) i in
-      ⊎_elim (λ w. absurd (not_in n (formulas e) d.1 (side_in e n w))) (mem_in_true n ms) (or_cases (is_side e n) (mem n ms) (every_at (λ k. is_side e k || mem k ms) ns h n d.0)),
-  λ f. every_of (λ k. is_side e k || mem k ms) ns λ n i.
-      ⊎_elim (λ j. or_left (is_side e n) (mem n ms) (in_side e n j)) (λ t. or_right (is_side e n) (mem n ms) (mem_true n ms (f n (minus_to n ns (formulas e) i t)))) (mem_in n (formulas e)),
+      ⊎_elim (λ w. absurd (not_in n (formulas e) d.1 (side_in e n w))) (in_from_among n ms) (or_cases (is_side e n) (among n ms) (all_at (λ k. is_side e k || among k ms) ns h n d.0)),
+  λ f. all_of (λ k. is_side e k || among k ms) ns λ n i.
+      ⊎_elim (λ j. or_left (is_side e n) (among n ms) (in_side e n j)) (λ t. or_right (is_side e n) (among n ms) (among_from_in n ms (f n (minus_to n ns (formulas e) i t)))) (mem_in n (formulas e)),
 )
 
 rest_subset : (ns fs : List ℕ) → Subset (minus ns fs) ns
@@ -171,8 +176,8 @@ absent_is : (v : Vocabulary) (x : ℕ) (e : SideFormulas) (ns : List ℕ) → De
 absent_is v x e ns = (
   λ h. absent_from v x (minus ns (formulas e)) λ n i. let d = minus_from n ns (formulas e) i in
       ⊎_elim (λ w. absurd (not_in n (formulas e) d.1 (side_in e n w))) (is_so (not (free v x n)))
-      (or_cases (is_side e n) (not (free v x n)) (every_at (λ k. is_side e k || not (free v x k)) ns h n d.0)),
-  λ a. every_of (λ k. is_side e k || not (free v x k)) ns λ n i.
+      (or_cases (is_side e n) (not (free v x n)) (all_at (λ k. is_side e k || not (free v x k)) ns h n d.0)),
+  λ a. all_of (λ k. is_side e k || not (free v x k)) ns λ n i.
       ⊎_elim (λ j. or_left (is_side e n) (not (free v x n)) (in_side e n j))
       (λ t. or_right (is_side e n) (not (free v x n)) (is_true (not (free v x n)) (absent_at v x (minus ns (formulas e)) a n (minus_to n ns (formulas e) i t)))) (mem_in n (formulas e)),
 )

@@ -1,6 +1,7 @@
 pub mod Tables
 pub mod Theories
 pub mod Examples
+pub mod Inferences
 pub mod Built
 pub mod Answering
 pub mod Fitting

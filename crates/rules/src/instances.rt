@@ -1,93 +1,96 @@
 // Whether a step is an instance of a rule.
-ghost use Rattle.std.specs.Prelude.{◌≡◌, not, T, length, Decides};
-ghost use Rattle.logic.specs.Rules.{Instance};
+ghost use Rattle.std.specs.Prelude.{◌≡◌, T, length, Decides};
+ghost use Rattle.std.specs.List.{list_any};
+ghost use Rattle.logic.specs.declared.rule.Rule.TheVariants.{FalseL, Mon};
 ghost use Rattle.formulas.specs.declared.kinds.Kind.TheVariants.{False};
 ghost use Rattle.vocabulary.specs.View.{model};
 ghost use Rattle.calculus.specs.Model.{seq, seqs};
-ghost use Rattle.rules.specs.Tables.{arity, by_line};
-ghost use Rattle.matching.specs.Reading.{is};
-ghost use Rattle.matching.specs.Sets.{every};
 ghost use Rattle.matching.specs.Lines.{goal_at};
+ghost use Rattle.matching.specs.Reading.{is};
+ghost use Rattle.rules.specs.Inferences.{InstanceOf};
+ghost use Rattle.rules.specs.Tables.{arity, by_line};
 
 use calculus::{Sequent, Step};
 use logic::rule::Rule;
 use matching::contexts::line_fits;
-use matching::lines::{line, substitutions};
+use matching::lines::Candidate;
 use matching::reading::is_falsity;
 use matching::sets::covered;
 use matching::side::SideFormulas;
 use vocabulary::store::Vocabulary;
 
-// The goal of a premise, 0 where there is none.
-fn goal_at(premises: &[Sequent], i: usize) -> u16
-    ensures { result ≡ goal_at (seqs premises.now) i }
-{
-    if i < premises.len() {
-        premises[i].goal()
-    } else {
-        0
-    }
+// A step over a vocabulary, with its sequent and those of its premises.
+#[derive(Clone, Copy)]
+pub(crate) struct Inference<'a> {
+    pub(crate) vocabulary: &'a Vocabulary,
+    pub(crate) step: &'a Step,
+    pub(crate) sequent: &'a Sequent,
+    pub(crate) premises: &'a [Sequent],
 }
 
-// Whether none of the list is ⊥.
-fn lacks_falsity(v: &Vocabulary, list: &[u16]) -> bool
-    ensures { result ≡ every (λ n. not (is (model v.now) n False 0 0)) list.now }
-{
-    for n in list {
-        if is_falsity(v, *n) {
-            return false;
+impl Inference<'_> {
+    // The goal of a premise, 0 where there is none: a rule reads the goals of as many premises as it takes.
+    fn goal_at(&self, i: usize) -> u16
+        ensures { result ≡ goal_at (seqs self.now.premises.now) i }
+    {
+        self.premises.get(i).map_or(0, |p| p.goal())
+    }
+
+    // Whether some hypothesis is ⊥.
+    fn has_falsity(&self) -> bool
+        ensures { result ≡ list_any (λ n. is (model self.now.vocabulary.now) n False 0 0) (seq self.now.sequent.now).hypotheses }
+    {
+        let hypotheses = self.sequent.hypotheses();
+        hypotheses.iter().any(|n| is_falsity(self.vocabulary, *n))
+    }
+
+    fn is_false_l(&self) -> bool
+        ensures { Decides result (InstanceOf self.now FalseL) }
+    {
+        self.premises.is_empty() && self.has_falsity()
+    }
+
+    fn is_mon(&self) -> bool
+        ensures { Decides result (InstanceOf self.now Mon) }
+    {
+        let [p] = self.premises else { return false };
+        self.sequent.goal() == p.goal()
+            && covered(
+                SideFormulas::Nothing,
+                p.hypotheses(),
+                self.sequent.hypotheses(),
+            )
+    }
+
+    // The rules other than MON and FALSE_L have one line for the goals of a step.
+    fn is_by_line(&self, rule: Rule) -> bool
+        requires rule { T (by_line rule) }
+        requires count { length self.now.premises.now ≡ arity rule }
+        ensures { Decides result (InstanceOf self.now rule) }
+    {
+        let candidate = Candidate {
+            vocabulary: self.vocabulary,
+            rule,
+            step: self.step,
+            goal: self.sequent.goal(),
+            first: self.goal_at(0),
+            second: self.goal_at(1),
+        };
+        let Some(line) = candidate.line() else {
+            return false
+        };
+        line_fits(self.vocabulary, &line, self.sequent, self.premises)
+    }
+
+    pub(crate) fn is_instance_of(&self, rule: Rule) -> bool
+        requires { length self.now.premises.now ≡ arity rule }
+        ensures { Decides result (InstanceOf self.now rule) }
+    {
+        // Two rules of 25 have no line; a table of functions would say no more.
+        match rule {
+            Rule::Mon => self.is_mon(),
+            Rule::FalseL => self.is_false_l(),
+            _ => self.is_by_line(rule),
         }
-    }
-    true
-}
-
-fn is_false_l(v: &Vocabulary, step: &Step, s: &Sequent, premises: &[Sequent]) -> bool
-    ensures { Decides result (Instance (model v.now) Rule.FalseL step.now.a step.now.b step.now.c (seqs premises.now) (seq s.now)) }
-{
-    if premises.len() > 0 {
-        return false;
-    }
-    let lacking = lacks_falsity(v, s.hypotheses());
-    !lacking
-}
-
-fn is_mon(v: &Vocabulary, step: &Step, s: &Sequent, premises: &[Sequent]) -> bool
-    ensures { Decides result (Instance (model v.now) Rule.Mon step.now.a step.now.b step.now.c (seqs premises.now) (seq s.now)) }
-{
-    if premises.len() != 1 {
-        return false;
-    }
-    let p = premises[0];
-    (s.goal() == p.goal()) & covered(SideFormulas::Nothing, p.hypotheses(), s.hypotheses())
-}
-
-// The rules other than MON and FALSE_L have one line for the goals of a step.
-fn is_by_line(v: &Vocabulary, rule: Rule, step: &Step, s: &Sequent, premises: &[Sequent]) -> bool
-    requires rule { T (by_line rule) }
-    requires count { length premises.now ≡ arity rule }
-    ensures { Decides result (Instance (model v.now) rule step.now.a step.now.b step.now.c (seqs premises.now) (seq s.now)) }
-{
-    let g = s.goal();
-    let p = goal_at(premises, 0);
-    let q = goal_at(premises, 1);
-    let (w, z) = substitutions(v, rule, step, g, p);
-    let l = line(v, rule, step, g, p, q, w, z);
-    line_fits(v, &l, s, premises)
-}
-
-pub(crate) fn is_instance_of(
-    v: &Vocabulary,
-    rule: Rule,
-    step: &Step,
-    s: &Sequent,
-    premises: &[Sequent],
-) -> bool
-    requires { length premises.now ≡ arity rule }
-    ensures { Decides result (Instance (model v.now) rule step.now.a step.now.b step.now.c (seqs premises.now) (seq s.now)) }
-{
-    match rule {
-        Rule::Mon => is_mon(v, step, s, premises),
-        Rule::FalseL => is_false_l(v, step, s, premises),
-        _ => is_by_line(v, rule, step, s, premises),
     }
 }

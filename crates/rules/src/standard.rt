@@ -4,14 +4,14 @@ ghost use Rattle.vocabulary.specs.View.{model};
 ghost use Rattle.calculus.specs.Model.{seq, seqs};
 ghost use Rattle.rules.specs.Theories.{OfTheTable};
 
-use crate::theories::{Equality, Propositions, Quantifiers};
+use crate::theories::{Equality, Propositions, Quantifiers, RuleRange};
 use calculus::{Joined, Sequent, Step, Theory};
 use vocabulary::store::Vocabulary;
 
 pub type Standard = Joined<Propositions, Joined<Quantifiers, Equality>>;
 
 pub fn standard_theory() -> Standard {
-    Joined(Propositions, Joined(Quantifiers, Equality))
+    Joined(RuleRange, Joined(RuleRange, RuleRange))
 }
 
 // Whether the step is an instance of the rule that has its number, as the three joined judge it.

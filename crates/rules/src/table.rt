@@ -1,10 +1,10 @@
-// The rules by number, and how many premises each takes.
-ghost use Rattle.std.specs.Prelude.{◌≡◌, ◌-◌, ◌≤◌, slice_index};
-ghost use Rattle.rules.specs.Tables.{arities, rule_of};
+// How many premises each rule takes.
+ghost use Rattle.std.specs.Prelude.{◌≡◌};
+ghost use Rattle.rules.specs.Tables.{arity};
 
 use logic::rule::Rule;
 
-// By a rule's number less one.
+// One constant table, in the order of the rules, which the theories read when they are asked.
 const PREMISES: [u8; 25] = [
     0, // HYP
     1, // MON
@@ -33,44 +33,8 @@ const PREMISES: [u8; 25] = [
     2, // PAIR_R
 ];
 
-const RULES: [Rule; 25] = [
-    Rule::Hyp,
-    Rule::Mon,
-    Rule::Cut,
-    Rule::FalseL,
-    Rule::FalseR,
-    Rule::NotL,
-    Rule::NotR,
-    Rule::AndL,
-    Rule::AndR,
-    Rule::OrL,
-    Rule::OrR,
-    Rule::ImpL,
-    Rule::ImpR,
-    Rule::TrueR,
-    Rule::EqvL,
-    Rule::EqvR,
-    Rule::AllL,
-    Rule::AllR,
-    Rule::XstL,
-    Rule::XstR,
-    Rule::Eql,
-    Rule::EqLR,
-    Rule::EqRL,
-    Rule::PairL,
-    Rule::PairR,
-];
-
-pub(crate) fn premises(rule: u16) -> u8
-    requires { (1 ≤ rule) × (rule ≤ 25) }
-    ensures { result ≡ slice_index arities (rule - 1) }
+pub(crate) fn premise_count(rule: Rule) -> u8
+    ensures { result ≡ arity rule }
 {
-    PREMISES[usize::from(rule) - 1]
-}
-
-pub(crate) fn rule_of(number: u16) -> Rule
-    requires { (1 ≤ number) × (number ≤ 25) }
-    ensures { result ≡ rule_of number }
-{
-    RULES[usize::from(number) - 1]
+    PREMISES[rule as usize]
 }

@@ -1,5 +1,5 @@
 -- A session that holds, deals with a hold, or concludes.
-use Rattle.std.proofs.Common.{◌≡◌, ℕ, List, [], ◌++◌, length, set, Some, None, Result, sym, ap, ◌∙◌, subst}
+use Rattle.std.proofs.Common.{◌≡◌, ℕ, List, [], ◌++◌, length, set, Some, None, Option, Result, sym, ap, ◌∙◌, subst}
 use Rattle.std.specs.List.{slice_get}
 use Rattle.calculus.specs.declared.step.Step.{Step}
 use Rattle.rules.specs.Theories.{standard}
@@ -8,8 +8,7 @@ use Rattle.book.specs.declared.hold.Hold.{Hold}
 use Rattle.book.specs.Books.{Model, hold}
 use Rattle.book.specs.Runs.{concludes, Does}
 use Rattle.commands.specs.declared.command.HoldCall.{HoldCall}
-use Rattle.replies.specs.declared.hand.InHand.{InHand}
-use Rattle.replies.specs.declared.hand.InHand.TheVariants.{Ended}
+use Rattle.replies.specs.declared.hand.Held.{Held}
 use Rattle.replies.specs.declared.reply.Reply.{Reply}
 use Rattle.replies.specs.Books.{entered}
 use Rattle.replies.specs.Hands.{undergo}
@@ -20,17 +19,17 @@ module _ (s : Session) (e : ℕ) (b : Model) (at : current_book s ≡ Some b) (o
   pub granted_reply : (n : ℕ) → n ≡ length s.holds → granting_reply n o ≡ held_reply s e
   granted_reply n l = ap (λ k. granting_reply k o) l ∙ ap (granting_reply (length s.holds)) is ∙ sym (ap (held_reply_by s e) at)
 
-  pub granted_after : (bs : List Model) (xs : List InHand) → bs ≡ set s.books s.current (hold b e).after → xs ≡ s.holds ++ granting_hand s.current o → with_holds (with_books s bs s.current) xs ≡ held_by s e (current_book s)
+  pub granted_after : (bs : List Model) (xs : List (Option Held)) → bs ≡ set s.books s.current (hold b e).after → xs ≡ s.holds ++ granting_hand s.current o → with_holds (with_books s bs s.current) xs ≡ held_by s e (current_book s)
   granted_after bs xs f g =
       ap (λ l. with_holds (with_books s l s.current) xs) f
       ∙ ap (with_holds (with_book s (hold b e).after)) (g ∙ ap (λ a. s.holds ++ granting_hand s.current a) is)
       ∙ sym (ap (held_by s e) at)
 
 module _ (s : Session) (d : HoldCall) (h : ℕ) (b : Model) (at : current_book s ≡ Some b) where
-  pub some_reply : (x : InHand) → slice_get s.holds h ≡ Some x → (undergo d b x).reply ≡ hold_call_reply s d h
+  pub some_reply : (x : Option Held) → slice_get s.holds h ≡ Some x → (undergo d b x).reply ≡ hold_call_reply s d h
   some_reply x f = sym (ap (λ o. hold_call_reply_by d o (slice_get s.holds h)) at ∙ ap (hold_call_reply_by d (Some b)) f)
 
-  pub some_after : (x y : InHand) (bs : List Model) → slice_get s.holds h ≡ Some x → y ≡ (undergo d b x).hand → bs ≡ set s.books s.current (undergo d b x).book → with_holds (with_books s bs s.current) (set s.holds h y) ≡ hold_called s d h (current_book s) (slice_get s.holds h)
+  pub some_after : (x y : Option Held) (bs : List Model) → slice_get s.holds h ≡ Some x → y ≡ (undergo d b x).hand → bs ≡ set s.books s.current (undergo d b x).book → with_holds (with_books s bs s.current) (set s.holds h y) ≡ hold_called s d h (current_book s) (slice_get s.holds h)
   some_after x y bs f g l =
       ap (λ m. with_holds (with_books s m s.current) (set s.holds h y)) l
       ∙ ap (λ z. with_holds (with_book s (undergo d b x).book) (set s.holds h z)) g
@@ -58,11 +57,11 @@ concluded_here s t b c xs hs cites a r at e f d q u =
       record { judges = d'.1; reply = q ∙ ap entered d'.2.0; after = u ∙ ap (λ m. with_derivation (with_book s m) [] []) d'.2.1 },
     )
 
-module _ (s : Session) (h : ℕ) (x : InHand) (f : slice_get s.holds h ≡ Some x) where
+module _ (s : Session) (h : ℕ) (x : Option Held) (f : slice_get s.holds h ≡ Some x) where
   pub closed_here : closed_reply h s.books x ≡ closed s h
   closed_here = sym (ap (closed_reply_of s h) f)
 
-  pub closed_after : (bs : List Model) (y : InHand) → bs ≡ closed_books s.books x → y ≡ Ended → with_holds (with_books s bs s.current) (set s.holds h y) ≡ closed_at s h
+  pub closed_after : (bs : List Model) (y : Option Held) → bs ≡ closed_books s.books x → y ≡ None → with_holds (with_books s bs s.current) (set s.holds h y) ≡ closed_at s h
   closed_after bs y e g =
       ap (λ l. with_holds (with_books s l s.current) (set s.holds h y)) e
       ∙ ap (λ z. with_holds (with_books s (closed_books s.books x) s.current) (set s.holds h z)) g

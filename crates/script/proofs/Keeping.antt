@@ -22,8 +22,7 @@ use Rattle.commands.specs.declared.command.Command.{Command}
 use Rattle.commands.specs.declared.command.Command.TheVariants as commands
 use Rattle.commands.specs.declared.command.HoldCall.{HoldCall}
 use Rattle.commands.specs.declared.command.HoldCall.TheVariants.{Preview, Lift, Withdraw}
-use Rattle.replies.specs.declared.hand.InHand.{InHand}
-use Rattle.replies.specs.declared.hand.InHand.TheVariants.{Held, Ended}
+use Rattle.replies.specs.declared.hand.Held.{Held}
 use Rattle.replies.specs.declared.reply.Reply.{Reply}
 use Rattle.replies.specs.Books.{after}
 use Rattle.commands.specs.Commands.{Request, silent, not_understood, asks, append, draw, request, without_ending}
@@ -55,21 +54,21 @@ goes_call b (Give p) = does (gives p (give b p).answer) (refl, refl)
 goes_call b (Entry e) = stays
 goes_call b (Predicate p) = stays
 
-lifted_book : (o : Result (Unit {0}) Refused) (x : InHand) (b : Model) → (lifted o x b).book ≡ b
+lifted_book : (o : Result (Unit {0}) Refused) (x : Option Held) (b : Model) → (lifted o x b).book ≡ b
 lifted_book (Ok u) x b = refl
 lifted_book (Err e) x b = refl
 
-withdrawn_book : (o : Result (ℕ × ℕ) Refused) (x : InHand) (b : Model) → (withdrawn o x b).book ≡ b
+withdrawn_book : (o : Result (ℕ × ℕ) Refused) (x : Option Held) (b : Model) → (withdrawn o x b).book ≡ b
 withdrawn_book (Ok p) x b = refl
 withdrawn_book (Err e) x b = refl
 
-goes_hold_call : (d : HoldCall) (b : Model) (x : InHand) → Goes b (undergo d b x).book
-goes_hold_call Preview b Ended = stays
-goes_hold_call Lift b Ended = stays
-goes_hold_call Withdraw b Ended = stays
-goes_hold_call Preview b (Held x k) = stays
-goes_hold_call Lift b (Held x k) = does (lifts x (lift b x).answer) (refl, lifted_book (lift b x).answer (Held x k) (lift b x).after)
-goes_hold_call Withdraw b (Held x k) = does (withdraws x (withdraw b x).answer) (refl, withdrawn_book (withdraw b x).answer (Held x k) (withdraw b x).after)
+goes_hold_call : (d : HoldCall) (b : Model) (x : Option Held) → Goes b (undergo d b x).book
+goes_hold_call Preview b None = stays
+goes_hold_call Lift b None = stays
+goes_hold_call Withdraw b None = stays
+goes_hold_call Preview b (Some x) = stays
+goes_hold_call Lift b (Some x) = does (lifts x.hold (lift b x.hold).answer) (refl, lifted_book (lift b x.hold).answer (Some x) (lift b x.hold).after)
+goes_hold_call Withdraw b (Some x) = does (withdraws x.hold (withdraw b x.hold).answer) (refl, withdrawn_book (withdraw b x.hold).answer (Some x) (withdraw b x.hold).after)
 
 turns_call : (s : Session) (c : Call) (o : Option Model) → current_book s ≡ o → Turns s (called s c o).books
 turns_call s c None e = kept
@@ -79,7 +78,7 @@ turns_hold : (s : Session) (n : ℕ) (o : Option Model) → current_book s ≡ o
 turns_hold s n None e = kept
 turns_hold s n (Some b) e = gone b (hold b n).after e (does (holds n (hold b n).answer) (refl, refl))
 
-turns_hold_call : (s : Session) (d : HoldCall) (h : ℕ) (o : Option Model) (x : Option InHand) → current_book s ≡ o → Turns s (hold_called s d h o x).books
+turns_hold_call : (s : Session) (d : HoldCall) (h : ℕ) (o : Option Model) (x : Option (Option Held)) → current_book s ≡ o → Turns s (hold_called s d h o x).books
 turns_hold_call s d h None x e = kept
 turns_hold_call s d h (Some b) None e = kept
 turns_hold_call s d h (Some b) (Some x) e = gone b (undergo d b x).book e (goes_hold_call d b x)
@@ -208,7 +207,7 @@ module _ (P : Model → Type 0) (new : (n : ℕ) → P (new_book n)) (next : (b 
   each_set (x ∷ bs) (suc i) b p h = (p.0, each_set bs i b p.1 h)
 
   each_one : (bs : List Model) (k : ℕ) (b : Model) → Each bs → slice_get bs k ≡ Some b → P b
-  each_one [] k b p e = let z : ◌≡◌ {A = ℕ} 0 1 = cc in absurd (omega arith)
+  each_one [] k b p e = cc
   each_one (x ∷ bs) zero b p e = let same : x ≡ b = cc in subst P same p.0
   each_one (x ∷ bs) (suc k) b p e = each_one bs k b p.1 e
 
@@ -242,7 +241,7 @@ abbrev Current : Session → Type 0
 Current s = 0 < length s.books → s.current < length s.books
 
 within : (bs : List Model) (k : ℕ) (b : Model) → slice_get bs k ≡ Some b → k < length bs
-within [] k b e = let z : ◌≡◌ {A = ℕ} 0 1 = cc in absurd (omega arith)
+within [] k b e = cc
 within (x ∷ bs) zero b e = omega arith
 within (x ∷ bs) (suc k) b e = let l = within bs k b e in omega arith
 
@@ -261,7 +260,7 @@ current_hold : (s : Session) (e : ℕ) (o : Option Model) → Current s → Curr
 current_hold s e None h = h
 current_hold s e (Some b) h = put_one s (hold b e).after h
 
-current_hold_call : (s : Session) (d : HoldCall) (k : ℕ) (o : Option Model) (x : Option InHand) → Current s → Current (hold_called s d k o x)
+current_hold_call : (s : Session) (d : HoldCall) (k : ℕ) (o : Option Model) (x : Option (Option Held)) → Current s → Current (hold_called s d k o x)
 current_hold_call s d k None x h = h
 current_hold_call s d k (Some b) None h = h
 current_hold_call s d k (Some b) (Some x) h = put_one s (undergo d b x).book h

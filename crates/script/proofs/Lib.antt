@@ -1,5 +1,4 @@
 pub mod Shelved
-pub mod Trying
 pub mod Obeying
 pub mod Granting
 pub mod Keeping

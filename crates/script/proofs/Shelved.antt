@@ -1,5 +1,5 @@
 -- The books and the holds of a session in memory, and the lists that the definitions speak of.
-use Rattle.std.proofs.Common.{◌≡◌, ℕ, zero, suc, ◌<◌, ◌≤◌, List, [], ◌∷◌, map, length, get_or, set, Some, None, sym, refl, ap, ◌∙◌, arith}
+use Rattle.std.proofs.Common.{◌≡◌, ℕ, zero, suc, ◌<◌, ◌≤◌, List, [], ◌∷◌, map, length, get_or, set, Some, None, Option, sym, refl, ap, ◌∙◌, arith}
 use lib.ListN.{length-map}
 use Rattle.std.specs.List.{slice_get}
 use Rattle.std.proofs.lemmas.List.{get_or-map, map-set}
@@ -7,7 +7,7 @@ use Rattle.std.proofs.lemmas.Option.{slice_get-get_or, slice_get_past}
 use Rattle.book.specs.declared.store.Book.{Book}
 use Rattle.book.specs.Books.{Model}
 use Rattle.book.specs.View.{model}
-use Rattle.replies.specs.declared.hand.InHand.{InHand}
+use Rattle.replies.specs.declared.hand.Held.{Held}
 use Rattle.script.specs.Closing.{modelled}
 
 module _ (bs : List Book) (k : ℕ) where
@@ -27,8 +27,8 @@ set_nth [] k m e = refl
 set_nth (x ∷ ms) zero m e = let same : m ≡ x = cc in ap (λ y. y ∷ ms) same
 set_nth (x ∷ ms) (suc k) m e = ap (λ l. x ∷ l) (set_nth ms k m e)
 
-module _ (xs : List InHand) (h : ℕ) where
-  pub in_hand : (x : InHand) → h < length xs → x ≡ get_or xs h x → slice_get xs h ≡ Some x
+module _ (xs : List (Option Held)) (h : ℕ) where
+  pub in_hand : (x : Option Held) → h < length xs → x ≡ get_or xs h x → slice_get xs h ≡ Some x
   in_hand x l e = slice_get-get_or xs h x l ∙ ap (λ y. Some y) (sym e)
 
   pub not_in_hand : length xs ≤ h → slice_get xs h ≡ None

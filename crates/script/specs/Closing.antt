@@ -6,26 +6,25 @@ use Rattle.book.specs.declared.hold.Refused.{Refused}
 use Rattle.book.specs.declared.store.Book.{Book}
 use Rattle.book.specs.Books.{Model, lift}
 use Rattle.book.specs.View.{model}
-use Rattle.replies.specs.declared.hand.InHand.{InHand}
-use Rattle.replies.specs.declared.hand.InHand.TheVariants.{Held, Ended}
+use Rattle.replies.specs.declared.hand.Held.{Held}
 use Rattle.replies.specs.declared.reply.Reply.{Reply}
 use Rattle.replies.specs.declared.reply.Reply.TheVariants as replies
 
 -- it was granted by one of the first n books
-abbrev pub GrantedBy : ℕ → InHand → Type 0
-GrantedBy n Ended = Unit {0}
-GrantedBy n (Held x k) = k < n
+abbrev pub GrantedBy : ℕ → Option Held → Type 0
+GrantedBy n None = Unit {0}
+GrantedBy n (Some x) = x.granted_by < n
 
-abbrev pub AllGranted : ℕ → List InHand → Type 0
+abbrev pub AllGranted : ℕ → List (Option Held) → Type 0
 AllGranted n [] = Unit {0}
 AllGranted n (x ∷ xs) = GrantedBy n x × AllGranted n xs
 
 -- the same, as a test
-abbrev pub granted_by : ℕ → InHand → Bool
-granted_by n Ended = true
-granted_by n (Held x k) = nat_lt k n
+abbrev pub granted_by : ℕ → Option Held → Bool
+granted_by n None = true
+granted_by n (Some x) = nat_lt x.granted_by n
 
-abbrev pub all_granted : ℕ → List InHand → Bool
+abbrev pub all_granted : ℕ → List (Option Held) → Bool
 all_granted n [] = true
 all_granted n (x ∷ xs) = granted_by n x && all_granted n xs
 
@@ -42,15 +41,15 @@ abbrev pub closing_on : ℕ → Hold → Option Model → Reply
 closing_on h x None = replies.DiscardedAtClose h
 closing_on h x (Some b) = closing h (lift b x).answer
 
-abbrev pub closed_reply : ℕ → List Model → InHand → Option Reply
-closed_reply h bs Ended = None
-closed_reply h bs (Held x k) = Some (closing_on h x (slice_get bs k))
+abbrev pub closed_reply : ℕ → List Model → Option Held → Option Reply
+closed_reply h bs None = None
+closed_reply h bs (Some x) = Some (closing_on h x.hold (slice_get bs x.granted_by))
 
 abbrev pub lifted_on : List Model → Hold → ℕ → Option Model → List Model
 lifted_on bs x k None = bs
 lifted_on bs x k (Some b) = slice_set bs k (lift b x).after
 
 -- the books afterwards
-abbrev pub closed_books : List Model → InHand → List Model
-closed_books bs Ended = bs
-closed_books bs (Held x k) = lifted_on bs x k (slice_get bs k)
+abbrev pub closed_books : List Model → Option Held → List Model
+closed_books bs None = bs
+closed_books bs (Some x) = lifted_on bs x.hold x.granted_by (slice_get bs x.granted_by)

@@ -17,14 +17,13 @@ use Rattle.commands.specs.declared.command.Call.{Call}
 use Rattle.commands.specs.declared.command.Command.{Command}
 use Rattle.commands.specs.declared.command.Command.TheVariants as commands
 use Rattle.commands.specs.declared.command.HoldCall.{HoldCall}
-use Rattle.replies.specs.declared.hand.InHand.{InHand}
-use Rattle.replies.specs.declared.hand.InHand.TheVariants.{Held, Ended}
+use Rattle.replies.specs.declared.hand.Held.{Held}
 use Rattle.replies.specs.declared.reply.Reply.{Reply}
 use Rattle.replies.specs.declared.reply.Reply.TheVariants as replies
 use Rattle.script.specs.declared.store.Session as stored
 use Rattle.replies.specs.Books.{Answers, Verdict, after, entered}
 use Rattle.commands.specs.Commands.{Request, silent, not_understood, asks, append, draw, request, without_ending}
-use Rattle.replies.specs.Hands.{undergo}
+use Rattle.replies.specs.Hands.{held, undergo}
 use Rattle.script.specs.Closing.{modelled, closed_reply, closed_books}
 use Rattle.commands.specs.Words.{Bytes}
 
@@ -35,7 +34,7 @@ pub record Session : Type 0 where
   pub current : ℕ
   pub steps : List Step
   pub hypotheses : List ℕ
-  pub holds : List InHand
+  pub holds : List (Option Held)
   pub lines : ℕ
   pub understood : Bool
 
@@ -62,7 +61,7 @@ with_books s bs k = record { books = bs; current = k; steps = s.steps; hypothese
 abbrev pub with_derivation : Session → List Step → List ℕ → Session
 with_derivation s xs hs = record { books = s.books; current = s.current; steps = xs; hypotheses = hs; holds = s.holds; lines = s.lines; understood = s.understood }
 
-abbrev pub with_holds : Session → List InHand → Session
+abbrev pub with_holds : Session → List (Option Held) → Session
 with_holds s xs = record { books = s.books; current = s.current; steps = s.steps; hypotheses = s.hypotheses; holds = xs; lines = s.lines; understood = s.understood }
 
 -- a session whose current book has become b
@@ -119,8 +118,8 @@ abbrev pub granting_reply : ℕ → Result Hold Refusal → Reply
 granting_reply n (Ok x) = replies.Hold n
 granting_reply n (Err e) = replies.Refused (notice e)
 
-abbrev pub granting_hand : ℕ → Result Hold Refusal → List InHand
-granting_hand k (Ok x) = Held x k ∷ []
+abbrev pub granting_hand : ℕ → Result Hold Refusal → List (Option Held)
+granting_hand k (Ok x) = Some (held x k) ∷ []
 granting_hand k (Err e) = []
 
 abbrev pub held_reply_by : Session → ℕ → Option Model → Reply
@@ -135,12 +134,12 @@ abbrev pub held_reply : Session → ℕ → Reply
 held_reply s e = held_reply_by s e (current_book s)
 
 -- what is done with the hold h in hand, by a book
-abbrev pub hold_call_reply_by : HoldCall → Option Model → Option InHand → Reply
+abbrev pub hold_call_reply_by : HoldCall → Option Model → Option (Option Held) → Reply
 hold_call_reply_by d None x = replies.NoSuchBook
 hold_call_reply_by d (Some b) None = replies.NoSuchHold
 hold_call_reply_by d (Some b) (Some x) = (undergo d b x).reply
 
-abbrev pub hold_called : Session → HoldCall → ℕ → Option Model → Option InHand → Session
+abbrev pub hold_called : Session → HoldCall → ℕ → Option Model → Option (Option Held) → Session
 hold_called s d h None x = s
 hold_called s d h (Some b) None = s
 hold_called s d h (Some b) (Some x) = with_holds (with_book s (undergo d b x).book) (slice_set s.holds h (undergo d b x).hand)
@@ -231,13 +230,13 @@ abbrev pub AlwaysWellFormed : Type 0
 AlwaysWellFormed = (xs : List Bytes) (t : Session) → After start xs t → (k : ℕ) (b : Model) → slice_get t.books k ≡ Some b → WellFormed b.vocabulary
 
 -- what is printed when the hold h is closed, and the session then
-abbrev pub closed_reply_of : Session → ℕ → Option InHand → Option Reply
+abbrev pub closed_reply_of : Session → ℕ → Option (Option Held) → Option Reply
 closed_reply_of s h None = None
 closed_reply_of s h (Some x) = closed_reply h s.books x
 
-abbrev pub closed_of : Session → ℕ → Option InHand → Session
+abbrev pub closed_of : Session → ℕ → Option (Option Held) → Session
 closed_of s h None = s
-closed_of s h (Some x) = with_holds (with_books s (closed_books s.books x) s.current) (slice_set s.holds h Ended)
+closed_of s h (Some x) = with_holds (with_books s (closed_books s.books x) s.current) (slice_set s.holds h None)
 
 abbrev pub closed : Session → ℕ → Option Reply
 closed s h = closed_reply_of s h (slice_get s.holds h)

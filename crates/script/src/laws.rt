@@ -2,39 +2,27 @@
 ghost use Rattle.script.specs.Worked.{WorkedExample};
 ghost use Rattle.script.specs.Sessions.{OthersStay, NumbersStay, AlwaysCurrent, AlwaysRun, AlwaysWellFormed};
 
-pub fn others_stay() -> u8
+pub fn others_stay()
     ensures { OthersStay }
-{
-    0
-}
+{}
 
-pub fn numbers_stay() -> u8
+pub fn numbers_stay()
     ensures { NumbersStay }
-{
-    0
-}
+{}
 
-pub fn always_current() -> u8
+pub fn always_current()
     ensures { AlwaysCurrent }
-{
-    0
-}
+{}
 
-pub fn always_run() -> u8
+pub fn always_run()
     ensures { AlwaysRun }
-{
-    0
-}
+{}
 
-pub fn always_well_formed() -> u8
+pub fn always_well_formed()
     ensures { AlwaysWellFormed }
-{
-    0
-}
+{}
 
 // The worked example: its vocabulary, its derivations and its run.
-pub fn worked_example_stands() -> u8
+pub fn worked_example_stands()
     ensures { WorkedExample }
-{
-    0
-}
+{}

@@ -11,23 +11,22 @@ use calculus::Step;
 use commands::command::{Call, Command, HoldCall, Line, read_line, without_ending};
 use commands::words::numbers_after;
 use replies::answers::{answer, entered, judge};
-use replies::hand::InHand;
+use replies::hand::{Held, undergo};
 use replies::reply::Reply;
 use rules::standard::standard_theory;
 use std::alloc::{AllocError, Global};
-use std::mem;
 
 impl Session {
-    pub fn new(heap: Global) -> Session
+    pub fn new(alloc: Global) -> Session
         ensures { model result ≡ start }
     {
         Session {
-            heap,
-            books: Vec::new(heap),
+            alloc,
+            books: Vec::new(alloc),
             current: 0,
-            steps: Vec::new(heap),
-            hypotheses: Vec::new(heap),
-            holds: Vec::new(heap),
+            steps: Vec::new(alloc),
+            hypotheses: Vec::new(alloc),
+            holds: Vec::new(alloc),
             lines: 0,
             understood: true,
         }
@@ -53,7 +52,7 @@ impl Session {
         ensures after { OnOk result (model self.new ≡ done (model self.old) (Command.Book number)) }
         ensures refused { OnErr result (model self.new ≡ model self.old) }
     {
-        let book = Book::begin(self.heap, number, &standard_theory())?;
+        let book = Book::begin(self.alloc, number, &standard_theory())?;
         let n = self.books.len();
         self.books.push(book)?;
         self.current = n;
@@ -65,24 +64,23 @@ impl Session {
         ensures answer { result ≡ used (model self.old) k }
         ensures after { model self.new ≡ done (model self.old) (Command.Use k) }
     {
-        match self.books.get(usize::from(k)) {
-            Some(book) => {
-                self.current = usize::from(k);
-                Reply::Book(book.number())
-            }
-            None => Reply::NoSuchBook,
-        }
+        let k = usize::from(k);
+        let Some(book) = self.books.get(k) else {
+            return Reply::NoSuchBook;
+        };
+        self.current = k;
+        Reply::Book(book.number())
     }
 
-    // Passes a call on to the current book.
+    // Passes a call on to the current book. Each call looks it up: a helper that lends it would borrow the whole session.
     fn pass_on(&mut self, call: Call) -> Reply
         ensures answer { Passed (model self.old) call result }
         ensures after { model self.new ≡ done (model self.old) (Command.Call call) }
     {
-        match self.books.get_mut(self.current) {
-            Some(book) => answer(book, call),
-            None => Reply::NoSuchBook,
-        }
+        let Some(book) = self.books.get_mut(self.current) else {
+            return Reply::NoSuchBook;
+        };
+        answer(book, call)
     }
 
     // Adds a step to the derivation.
@@ -122,10 +120,10 @@ impl Session {
             Ok(hold) => {
                 let n = self.holds.len();
                 let granted_by = self.current;
-                self.holds.push_reserved(InHand::Held { hold, granted_by });
+                self.holds.push_reserved(Some(Held { hold, granted_by }));
                 Ok(Reply::Hold(n))
             }
-            Err(refusal) => Ok(Reply::Refused(refusal.notice())),
+            Err(refusal) => Ok(Reply::Refused(refusal.into())),
         }
     }
 
@@ -138,7 +136,7 @@ impl Session {
             return Reply::NoSuchBook;
         };
         match self.holds.get_mut(h) {
-            Some(held) => held.undergo(call, book),
+            Some(held) => undergo(held, call, book),
             None => Reply::NoSuchHold,
         }
     }
@@ -148,8 +146,7 @@ impl Session {
         ensures after { OnOk result (model self.new ≡ appended (model self.old) numbers.now) }
         ensures refused { OnErr result (model self.new ≡ model self.old) }
     {
-        self.hypotheses.extend_from_slice(numbers)?;
-        Ok(())
+        self.hypotheses.extend_from_slice(numbers)
     }
 
     // Hands the derivation over to the current book with citations, and begins a new one.
@@ -167,24 +164,25 @@ impl Session {
         reply
     }
 
-    // Only a new book, a new step and a new hold can want for memory, and are then not begun.
+    // Only a new book, a new step and a new hold can want for memory, and nothing is changed then.
     pub fn run(&mut self, command: Command) -> Result<Option<Reply>, AllocError>
         ensures answer { IfOk result (λ reply. Replies (model self.old) command reply) }
         ensures after { OnOk result (model self.new ≡ done (model self.old) command) }
         ensures refused { OnErr result (model self.new ≡ model self.old) }
     {
-        match command {
-            Command::Book(number) => Ok(Some(self.begin(number)?)),
-            Command::Use(k) => Ok(Some(self.choose(k))),
-            Command::Call(call) => Ok(Some(self.pass_on(call))),
+        let reply = match command {
+            Command::Book(number) => self.begin(number)?,
+            Command::Use(k) => self.choose(k),
+            Command::Call(call) => self.pass_on(call),
             Command::Step(step) => {
                 self.add(step)?;
-                Ok(None)
+                return Ok(None);
             }
-            Command::Check => Ok(Some(self.check())),
-            Command::Hold(e) => Ok(Some(self.hold(e)?)),
-            Command::HoldCall(call, h) => Ok(Some(self.call_with_hold(call, usize::from(h)))),
-        }
+            Command::Check => self.check(),
+            Command::Hold(e) => self.hold(e)?,
+            Command::HoldCall(call, h) => self.call_with_hold(call, usize::from(h)),
+        };
+        Ok(Some(reply))
     }
 
     fn next_line(&self) -> u64
@@ -206,12 +204,12 @@ impl Session {
             }
             Line::Asks(command) => self.run(command),
             Line::Hypotheses => {
-                let numbers = numbers_after(self.heap, line)?;
+                let numbers = numbers_after(self.alloc, line)?;
                 self.append(numbers.as_slice())?;
                 Ok(None)
             }
             Line::Conclude => {
-                let citations = numbers_after(self.heap, line)?;
+                let citations = numbers_after(self.alloc, line)?;
                 Ok(Some(self.conclude(citations.as_slice())))
             }
         }
@@ -233,14 +231,14 @@ impl Session {
         ensures answer { result ≡ closed (model self.old) h }
         ensures after { model self.new ≡ closed_at (model self.old) h }
     {
-        let held = mem::replace(self.holds.get_mut(h)?, InHand::Ended);
+        let held = self.holds.get_mut(h)?.take();
         close(held, &mut self.books, h)
     }
 
     // Takes the session apart. Holds still in hand are ended, the last first.
     pub fn end(self) {
         let Session {
-            heap: _,
+            alloc: _,
             mut books,
             current: _,
             steps: _,

@@ -3,19 +3,20 @@ ghost use Rattle.script.specs.Closing.{all_granted};
 
 use book::Book;
 use calculus::Step;
-use replies::hand::InHand;
+use replies::hand::Held;
 use std::alloc::Global;
 
 // A script as it is run: the books begun so far, the one that calls go to, the derivation that is being written,
 // and the holds in hand, each granted by one of the books.
-// Holds have to be ended, so a session is not let go: `end` takes it apart.
+// Before the first book there is none at `current`, as `get` tells. Holds have to be ended, so a session is not let go: `end` takes
+// it apart.
 pub struct Session {
-    pub(crate) heap: Global,
+    pub(crate) alloc: Global,
     pub(crate) books: Vec<Book>,
     pub(crate) current: usize,
     pub(crate) steps: Vec<Step>,
     pub(crate) hypotheses: Vec<u16>,
-    pub(crate) holds: Vec<InHand>,
+    pub(crate) holds: Vec<Option<Held>>,
     pub(crate) lines: u64,
     pub(crate) understood: bool,
     ghost granted: { all_granted (vec_len books) holds.items ≡ true },

@@ -1,5 +1,5 @@
 // Derivations that are right and wrong, as scripts: at least one of each for every rule.
-use replies::reply::Reply;
+use crate::running::{all_answer, answers, in_session};
 use script::Session;
 use std::alloc::AllocError;
 use std::process::Abort;
@@ -352,65 +352,34 @@ fn enter_vocabulary(session: &mut Session) -> Result<(), AllocError> {
     Ok(())
 }
 
-// Runs the lines of a script, and answers what is printed for the last.
-fn last_reply(session: &mut Session, script: &str) -> Result<Option<Reply>, AllocError> {
-    let mut last = None;
-    for line in script.lines() {
-        last = session.line(line.as_bytes())?;
-    }
-    Ok(last)
-}
-
-// Runs a script, and compares what is printed for its last line.
-fn answers(
-    rt: &(impl Abort + AllocGlobal),
-    session: &mut Session,
-    script: &str,
-    expected: &str,
-) -> Result<(), Fail> {
-    match last_reply(session, script)? {
-        Some(reply) => assert_eq!(rt; reply.to_string(rt.alloc())?.as_str(), expected),
-        None => assert_eq!(rt; "", expected),
-    }
-    Ok(())
-}
-
 // Each script after the vocabulary, and what is printed for its last line.
-fn all_answer(
+fn all_judged(
     rt: &(impl Abort + AllocGlobal),
     session: &mut Session,
     table: &[(&str, &str)],
 ) -> Result<(), Fail> {
     enter_vocabulary(session)?;
-    for (script, verdict) in table {
-        answers(rt, session, script, verdict)?;
-    }
+    all_answer(rt, session, table)?;
     assert!(rt; session.understood());
     Ok(())
 }
 
 #[test]
 fn rules_of_propositions(rt: HostRuntime) -> Result<(), Fail> {
-    let mut session = Session::new(rt.alloc());
-    let outcome = all_answer(&rt, &mut session, &PROPOSITIONS);
-    session.end();
-    outcome
+    in_session(
+        rt.alloc(),
+        |session| all_judged(&rt, session, &PROPOSITIONS),
+    )
 }
 
 #[test]
 fn rules_of_quantifiers_and_equality(rt: HostRuntime) -> Result<(), Fail> {
-    let mut session = Session::new(rt.alloc());
-    let outcome = all_answer(&rt, &mut session, &TERMS);
-    session.end();
-    outcome
+    in_session(rt.alloc(), |session| all_judged(&rt, session, &TERMS))
 }
 
 #[test]
 fn edges(rt: HostRuntime) -> Result<(), Fail> {
-    let mut session = Session::new(rt.alloc());
-    let outcome = all_answer(&rt, &mut session, &EDGES);
-    session.end();
-    outcome
+    in_session(rt.alloc(), |session| all_judged(&rt, session, &EDGES))
 }
 
 // A derivation of so many steps, each {P} ⊢ P, with so many numbers in its list.
@@ -440,10 +409,7 @@ fn all_are_sized(rt: &(impl Abort + AllocGlobal), session: &mut Session) -> Resu
 
 #[test]
 fn sizes(rt: HostRuntime) -> Result<(), Fail> {
-    let mut session = Session::new(rt.alloc());
-    let outcome = all_are_sized(&rt, &mut session);
-    session.end();
-    outcome
+    in_session(rt.alloc(), |session| all_are_sized(&rt, session))
 }
 
 // The derivation belongs to the session: it waits for a book, is judged in the current one, and then begins anew.
@@ -470,17 +436,7 @@ const WRITTEN: [(&str, &str); 20] = [
     ("check", "refused 20 derivation 0"),
 ];
 
-fn is_written(rt: &(impl Abort + AllocGlobal), session: &mut Session) -> Result<(), Fail> {
-    for (line, expected) in WRITTEN {
-        answers(rt, session, line, expected)?;
-    }
-    Ok(())
-}
-
 #[test]
 fn one_derivation_is_written(rt: HostRuntime) -> Result<(), Fail> {
-    let mut session = Session::new(rt.alloc());
-    let outcome = is_written(&rt, &mut session);
-    session.end();
-    outcome
+    in_session(rt.alloc(), |session| all_answer(&rt, session, &WRITTEN))
 }

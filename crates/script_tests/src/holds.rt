@@ -1,5 +1,5 @@
 // Giving, concluding, holding and withdrawing, as scripts.
-use replies::reply::Reply;
+use crate::running::{all_answer, in_session, is_printed};
 use script::Session;
 use std::process::Abort;
 use std::test::*;
@@ -69,22 +69,8 @@ const SCRIPT: [(&str, &str); 57] = [
     ("hold", "line 57: not understood"),
 ];
 
-fn is_printed(
-    rt: &(impl Abort + AllocGlobal),
-    reply: Option<Reply>,
-    expected: &str,
-) -> Result<(), Fail> {
-    match reply {
-        Some(reply) => assert_eq!(rt; reply.to_string(rt.alloc())?.as_str(), expected),
-        None => assert_eq!(rt; "", expected),
-    }
-    Ok(())
-}
-
 fn holds_are_answered(rt: &(impl Abort + AllocGlobal), session: &mut Session) -> Result<(), Fail> {
-    for (line, expected) in SCRIPT {
-        is_printed(rt, session.line(line.as_bytes())?, expected)?;
-    }
+    all_answer(rt, session, &SCRIPT)?;
     assert_eq!(rt; session.holds(), 4);
     is_printed(rt, session.close_hold(0), "")?;
     is_printed(rt, session.close_hold(1), "")?;
@@ -96,10 +82,7 @@ fn holds_are_answered(rt: &(impl Abort + AllocGlobal), session: &mut Session) ->
 
 #[test]
 fn scripts_with_holds_are_answered(rt: HostRuntime) -> Result<(), Fail> {
-    let mut session = Session::new(rt.alloc());
-    let outcome = holds_are_answered(&rt, &mut session);
-    session.end();
-    outcome
+    in_session(rt.alloc(), |session| holds_are_answered(&rt, session))
 }
 
 // A citation is refused at its place: after one that repeats it, while its rule is held, and once its rule is withdrawn.
@@ -125,22 +108,9 @@ const CITED: [(&str, &str); 19] = [
     ("conclude 0 2", "refused 27 book 1"),
 ];
 
-fn citations_are_answered(
-    rt: &(impl Abort + AllocGlobal),
-    session: &mut Session,
-) -> Result<(), Fail> {
-    for (line, expected) in CITED {
-        is_printed(rt, session.line(line.as_bytes())?, expected)?;
-    }
-    Ok(())
-}
-
 #[test]
 fn citations_are_refused_at_their_place(rt: HostRuntime) -> Result<(), Fail> {
-    let mut session = Session::new(rt.alloc());
-    let outcome = citations_are_answered(&rt, &mut session);
-    session.end();
-    outcome
+    in_session(rt.alloc(), |session| all_answer(&rt, session, &CITED))
 }
 
 // Two books with one number: the second lifts what the first granted, so that at the close the first's own hold is refused.
@@ -159,9 +129,7 @@ const TWINS: [(&str, &str); 11] = [
 ];
 
 fn twins_are_answered(rt: &(impl Abort + AllocGlobal), session: &mut Session) -> Result<(), Fail> {
-    for (line, expected) in TWINS {
-        is_printed(rt, session.line(line.as_bytes())?, expected)?;
-    }
+    all_answer(rt, session, &TWINS)?;
     is_printed(rt, session.close_hold(0), "")?;
     is_printed(rt, session.close_hold(1), "discarded 1 at close")?;
     is_printed(rt, session.close_hold(1), "")
@@ -169,10 +137,7 @@ fn twins_are_answered(rt: &(impl Abort + AllocGlobal), session: &mut Session) ->
 
 #[test]
 fn a_hold_may_be_discarded(rt: HostRuntime) -> Result<(), Fail> {
-    let mut session = Session::new(rt.alloc());
-    let outcome = twins_are_answered(&rt, &mut session);
-    session.end();
-    outcome
+    in_session(rt.alloc(), |session| twins_are_answered(&rt, session))
 }
 
 // A book has at most 512 entries.
@@ -190,8 +155,5 @@ fn fills(rt: &(impl Abort + AllocGlobal), session: &mut Session) -> Result<(), F
 
 #[test]
 fn a_book_may_be_full(rt: HostRuntime) -> Result<(), Fail> {
-    let mut session = Session::new(rt.alloc());
-    let outcome = fills(&rt, &mut session);
-    session.end();
-    outcome
+    in_session(rt.alloc(), |session| fills(&rt, session))
 }

@@ -6,4 +6,6 @@ mod derivations;
 #[cfg(test)]
 mod holds;
 #[cfg(test)]
+mod running;
+#[cfg(test)]
 mod tests;

@@ -1,4 +1,5 @@
 // Lines read one by one, and scripts run through a session.
+use crate::running::{in_session, is_printed};
 use calculus::Step;
 use commands::command::{Call, Command, HoldCall, Line, read_line};
 use script::Session;
@@ -65,13 +66,18 @@ fn commands_are_read(rt: HostRuntime) -> Result<(), Fail> {
     Ok(())
 }
 
+// Each of these lines asks the same.
+fn all_ask(rt: &impl Abort, lines: &[&str], asked: Line) {
+    for line in lines {
+        assert_eq!(rt; read_line(line.as_bytes()), asked);
+    }
+}
+
 const SILENT: [&str; 6] = ["", " ", "     ", "#", "# book 7", "#book"];
 
 #[test]
 fn blanks_and_comments_are_silent(rt: HostRuntime) -> Result<(), Fail> {
-    for text in SILENT {
-        assert_eq!(rt; read_line(text.as_bytes()), Line::Silent);
-    }
+    all_ask(&rt, &SILENT, Line::Silent);
     Ok(())
 }
 
@@ -84,9 +90,7 @@ const LISTS: [&str; 4] = [
 
 #[test]
 fn lists_of_any_length_are_read(rt: HostRuntime) -> Result<(), Fail> {
-    for text in LISTS {
-        assert_eq!(rt; read_line(text.as_bytes()), Line::Hypotheses);
-    }
+    all_ask(&rt, &LISTS, Line::Hypotheses);
     Ok(())
 }
 
@@ -99,9 +103,7 @@ const CITATIONS: [&str; 4] = [
 
 #[test]
 fn citations_of_any_length_are_read(rt: HostRuntime) -> Result<(), Fail> {
-    for text in CITATIONS {
-        assert_eq!(rt; read_line(text.as_bytes()), Line::Conclude);
-    }
+    all_ask(&rt, &CITATIONS, Line::Conclude);
     Ok(())
 }
 
@@ -199,29 +201,17 @@ const SCRIPT: [(&[u8], &str); 30] = [
     (b"carrier\r\n", "type 2"),
 ];
 
-fn all_answered(
-    rt: &(impl Abort + AllocGlobal),
-    session: &mut Session,
-    script: &[(&[u8], &str)],
-) -> Result<(), Fail> {
-    for (text, expected) in script {
-        match session.line(text)? {
-            Some(reply) => assert_eq!(rt; reply.to_string(rt.alloc())?.as_str(), *expected),
-            None => assert_eq!(rt; "", *expected),
-        }
+fn script_is_answered(rt: &(impl Abort + AllocGlobal), session: &mut Session) -> Result<(), Fail> {
+    for (text, expected) in SCRIPT {
+        is_printed(rt, session.line(text)?, expected)?;
     }
+    assert!(rt; !session.understood());
     Ok(())
 }
 
 #[test]
 fn scripts_are_answered(rt: HostRuntime) -> Result<(), Fail> {
-    let mut session = Session::new(rt.alloc());
-    let outcome = all_answered(&rt, &mut session, &SCRIPT);
-    let understood = session.understood();
-    session.end();
-    outcome?;
-    assert!(rt; !understood);
-    Ok(())
+    in_session(rt.alloc(), |session| script_is_answered(&rt, session))
 }
 
 fn is_understood(rt: &impl Abort, session: &mut Session) -> Result<(), Fail> {
@@ -236,8 +226,5 @@ fn is_understood(rt: &impl Abort, session: &mut Session) -> Result<(), Fail> {
 
 #[test]
 fn an_understood_script_is_said_to_be_one(rt: HostRuntime) -> Result<(), Fail> {
-    let mut session = Session::new(rt.alloc());
-    let outcome = is_understood(&rt, &mut session);
-    session.end();
-    outcome
+    in_session(rt.alloc(), |session| is_understood(&rt, session))
 }

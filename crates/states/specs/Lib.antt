@@ -1,3 +1,4 @@
 pub mod States
 pub mod Refusals
 pub mod Support
+pub mod Texts

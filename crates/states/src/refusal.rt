@@ -1,5 +1,6 @@
 ghost use Rattle.std.specs.Prelude.{◌≡◌};
 ghost use Rattle.states.specs.Refusals.{in_book, notice};
+ghost use Rattle.states.specs.declared.refusal.Refusal.TheVariants.{Derivation};
 
 use calculus::refusal::Refusal as DerivationRefusal;
 use formulas::refusals::{Layer, Notice};
@@ -30,14 +31,14 @@ fn in_book(number: u16, place: u16) -> Notice
     }
 }
 
-impl Refusal {
-    pub fn notice(self) -> Notice
-        ensures { result ≡ notice self }
-    {
-        match self {
+impl From<Refusal> for Notice {
+    ghost from_gives = { λ refusal n. n ≡ notice refusal };
+
+    fn from(refusal: Refusal) -> Notice {
+        match refusal {
             Refusal::NotAPredicate => in_book(10, 0),
             Refusal::EntriesFull => in_book(11, 0),
-            Refusal::Derivation(refusal) => refusal.notice(),
+            Refusal::Derivation(refusal) => Notice::from(refusal),
             Refusal::UnknownCitation(place) => in_book(26, place),
             Refusal::CitationNotStanding(place) => in_book(27, place),
             Refusal::CitationHeld(place) => in_book(28, place),
@@ -47,5 +48,14 @@ impl Refusal {
             Refusal::NotStanding => in_book(32, 0),
             Refusal::NotHeld => in_book(33, 0),
         }
+    }
+}
+
+// A derivation's refusal is one of the book that it was brought to.
+impl From<DerivationRefusal> for Refusal {
+    ghost from_gives = { λ refusal e. e ≡ Derivation refusal };
+
+    fn from(refusal: DerivationRefusal) -> Refusal {
+        Refusal::Derivation(refusal)
     }
 }

@@ -1,5 +1,5 @@
 ghost use Rattle.std.specs.Prelude.{◌≡◌};
-ghost use Rattle.states.specs.Support.{stands_with, in_support, falls_with, lose};
+ghost use Rattle.states.specs.Support.{stands_with, in_support, with_state, falls_with, lose};
 ghost use Rattle.states.specs.States.{becomes, stands, is_held, is_standing, is_given};
 
 use crate::entry::{Entry, Event, Origin, State};
@@ -18,6 +18,7 @@ impl State {
         }
     }
 
+    // The definitions tell states apart by cases, as `matches!` does; by `==` each would need a definition of its own for nothing.
     pub fn is_held(self) -> bool
         ensures { result ≡ is_held self }
     {
@@ -54,14 +55,11 @@ impl Entry {
         self.predicate == p && self.state.stands()
     }
 
-    // Whether the given rule r is in its support.
+    // Whether the given rule r is in its support; past the marks there is no rule.
     pub fn rests_on(&self, r: usize) -> bool
         ensures { result ≡ in_support r self.now }
     {
-        match self.support.get(r) {
-            Some(mark) => *mark,
-            None => false,
-        }
+        self.support.get(r).copied().unwrap_or(false)
     }
 
     // Whether it is a standing conclusion whose support has the rule r.
@@ -71,14 +69,18 @@ impl Entry {
         self.rests_on(r) && !self.origin.is_given() && self.state.is_standing()
     }
 
-    // Its state once the rule r is lost.
-    pub fn state_without(&self, r: usize) -> State
-        ensures { result ≡ (lose r self.now).state }
+    pub fn undergo(&mut self, event: Event)
+        ensures { self.new ≡ with_state self.old (becomes self.old.state event self.old.origin) }
+    {
+        self.state = self.state.next(event, self.origin);
+    }
+
+    // The loss of the rule r.
+    pub fn lose(&mut self, r: usize)
+        ensures { self.new ≡ lose r self.old }
     {
         if self.rests_on(r) {
-            self.state.next(Event::Loss, self.origin)
-        } else {
-            self.state
+            self.undergo(Event::Loss);
         }
     }
 }

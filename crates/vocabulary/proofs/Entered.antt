@@ -1,8 +1,8 @@
 -- What it takes to enter a record, and what is so of what was entered.
-use Rattle.std.proofs.Common.{◌≡◌, ℕ, zero, suc, ◌<◌, ◌≤◌, Bool, true, false, cond, not, T, eqb, ltb, leb, ◌⊎◌, List, [], ◌∷◌, ◌++◌, map, length, get_or, Some, None, Option, sym, refl, ap, ◌∙◌, subst, ap₂, inl, inr, ⊎_elim, arith}
-use Rattle.std.specs.Option.{option_map}
+use Rattle.std.proofs.Common.{◌≡◌, ℕ, zero, suc, ◌<◌, ◌≤◌, Bool, true, false, cond, not, T, eqb, ltb, leb, ◌⊎◌, List, [], ◌∷◌, ◌++◌, map, length, get_or, Some, None, Ok, Option, sym, refl, ap, ◌∙◌, subst, ap₂, inl, inr, ⊎_elim, arith}
+use Rattle.std.specs.Option.{ok_or, option_map}
 use Rattle.std.proofs.lemmas.List.{get_or_append_left, get_or_push, get_or_past, length_push}
-use Rattle.std.proofs.lemmas.Bool.{cases_lt, ltb-true, leb-true, false≢true, and_parts, and_from, cond-false, le-ltb}
+use Rattle.std.proofs.lemmas.Bool.{cases_lt, ltb-true, leb-true, false≢true, and_parts, and_from}
 use Rattle.logic.specs.Formulas.{In, Shape, falsity, operands, through, Vocabulary, node, ask, WellFormed, weight, weight_layer, depth, depth_layer, predicate_shape}
 use Rattle.logic.specs.Growing.{with_formula}
 use Rattle.logic.specs.Deciding.{found, is_predicate, sorted, agreed, type_of, type_of_layer}
@@ -15,12 +15,16 @@ use Rattle.formulas.specs.declared.kinds.Kind.TheVariants.{Variable, Pair, False
 use Rattle.formulas.specs.declared.kinds.Role.{Role}
 use Rattle.formulas.specs.declared.kinds.Role.TheVariants.{Nothing, AVariable, Expression, Predicate, ASetName}
 use Rattle.formulas.specs.declared.records.Record.{Record}
-use Rattle.vocabulary.specs.declared.facts.Facts.{Facts}
-use Rattle.formulas.specs.declared.refusals.Refusal.TheVariants.{WrongOperand, TypesDisagree, TooLarge, FormulasFull}
+use Rattle.vocabulary.specs.declared.facts.Formula.{Formula}
+use Rattle.formulas.specs.declared.refusals.Refusal.{Refusal}
+use Rattle.formulas.specs.declared.refusals.Refusal.TheVariants.{UnknownKind, WrongOperand, TypesDisagree, TooLarge}
+use Rattle.formulas.specs.Refusals.{kind_or_refusal}
 use Rattle.formulas.specs.Kinds.{kind_numbered, first_role, second_role, is_formula}
-use Rattle.formulas.specs.Records.{shape, shape_of, record_of, entry, blank, plain, same_record, record_at}
-use Rattle.vocabulary.specs.Calls.{refused, granted, fits, operands_fit, objection, small_enough, weight_with, depth_with, formula_number, settle, enter_unless, enter_kind, enter_formula}
-use Rattle.vocabulary.specs.Stored.{no_facts, facts_at, Plain, Typed, Weighed, Measured, Stored}
+use Rattle.formulas.specs.Records.{shape, shape_of, record_of, entry, blank, plain, same_record}
+use Rattle.vocabulary.specs.Calls.{refused, fits, operands_fit, objection, small_enough, weight_with, depth_with, formula_number, enter_unless, enter_kind, enter_formula}
+use Rattle.vocabulary.specs.Leaves.{Fitting}
+use Rattle.vocabulary.specs.Lists.{stored_shape}
+use Rattle.vocabulary.specs.Stored.{no_formula, formula_at, Plain, Typed, Weighed, Measured, Stored}
 use Rattle.formulas.proofs.Shapes.{back, same_itself}
 
 none_means : {X : Type 0} (b c d : Bool) (x y z : X) → cond b (cond c (cond d None (Some x)) (Some y)) (Some z) ≡ None → (b ≡ true) × (c ≡ true) × (d ≡ true)
@@ -133,38 +137,41 @@ module _ (v : Vocabulary) where
   small_means s h = let p = and_parts (leb (weight_with v s) 4095) (leb (depth_with v s) 64) h in
       (leb-true (weight_with v s) 4095 p.0, leb-true (depth_with v s) 64 p.1)
 
-plain_push : (rs : List Record) (r : Record) → Plain rs → plain r ≡ true → Plain (rs ++ r ∷ [])
-plain_push rs r all new k = ⊎_elim old (λ h. ⊎_elim past last (cases_lt (length rs) k)) (cases_lt k (length rs))
+plain_push : (fs : List Formula) (f : Formula) → Plain fs → plain f.entered ≡ true → Plain (fs ++ f ∷ [])
+plain_push fs f all new k = ⊎_elim old (λ h. ⊎_elim past last (cases_lt (length fs) k)) (cases_lt k (length fs))
   where
-    old : k < length rs → plain (record_at (rs ++ r ∷ []) k) ≡ true
-    old h = ap plain (get_or_append_left rs (r ∷ []) (entry False 0 0) k h) ∙ all k
+    plain_at : Formula → Bool
+    plain_at g = plain g.entered
 
-    past : length rs < k → plain (record_at (rs ++ r ∷ []) k) ≡ true
-    past h = ap plain (get_or_past (rs ++ r ∷ []) k (entry False 0 0) (omega (arith, length_push rs r)))
+    old : k < length fs → plain_at (formula_at (fs ++ f ∷ []) k) ≡ true
+    old h = ap plain_at (get_or_append_left fs (f ∷ []) no_formula k h) ∙ all k
 
-    last : k ≤ length rs → plain (record_at (rs ++ r ∷ []) k) ≡ true
-    last h = elim (cases_lt k (length rs)) [ inl l ↦ old l | inr g ↦ ap plain (get_or_push rs r (entry False 0 0) k (omega arith)) ∙ new ]
+    past : length fs < k → plain_at (formula_at (fs ++ f ∷ []) k) ≡ true
+    past h = ap plain_at (get_or_past (fs ++ f ∷ []) k no_formula (omega (arith, length_push fs f)))
+
+    last : k ≤ length fs → plain_at (formula_at (fs ++ f ∷ []) k) ≡ true
+    last h = elim (cases_lt k (length fs)) [ inl l ↦ old l | inr g ↦ ap plain_at (get_or_push fs f no_formula k (omega arith)) ∙ new ]
 
 -- what is stored stays right when a formula is entered
 module _ (v : Vocabulary) (s : Shape ℕ) (wf : WellFormed v) (wf' : WellFormed (with_formula v s)) (known : (m : ℕ) → In m (operands s) → m < length v.formulas)
-    (fs : List Facts) (x : Facts) (len : length fs ≡ length v.formulas)
-    (get : Facts → ℕ) (layer layer' : Shape ℕ → ℕ) (same : (r : Shape ℕ) → layer' r ≡ layer r) where
+    (fs : List Formula) (x : Formula) (len : length fs ≡ length v.formulas)
+    (get : Formula → ℕ) (layer layer' : Shape ℕ → ℕ) (same : (r : Shape ℕ) → layer' r ≡ layer r) where
   abbrev Right : ℕ → Type 0
-  Right k = get (facts_at (fs ++ x ∷ []) k) ≡ ask (with_formula v s) 0 (λ _. layer') k
+  Right k = get (formula_at (fs ++ x ∷ []) k) ≡ ask (with_formula v s) 0 (λ _. layer') k
 
-  reckoned : get no_facts ≡ layer falsity → ((k : ℕ) → get (facts_at fs k) ≡ ask v 0 (λ _. layer) k) → get x ≡ layer (through (ask v 0 (λ _. layer)) s) →
-      (k : ℕ) → get (facts_at (fs ++ x ∷ []) k) ≡ ask (with_formula v s) 0 (λ _. layer') k
+  reckoned : get no_formula ≡ layer falsity → ((k : ℕ) → get (formula_at fs k) ≡ ask v 0 (λ _. layer) k) → get x ≡ layer (through (ask v 0 (λ _. layer)) s) →
+      (k : ℕ) → get (formula_at (fs ++ x ∷ []) k) ≡ ask (with_formula v s) 0 (λ _. layer') k
   reckoned none all new k = elim (cases_lt k (length fs)) [ inl h ↦ old h | inr h ↦ elim (cases_lt (length fs) k) [ inl g ↦ past g | inr g ↦ last (omega arith) ] ]
     where
       old : k < length fs → Right k
-      old h = ap get (get_or_append_left fs (x ∷ []) no_facts k h) ∙ (all k ∙ sym (kept_below v s wf wf' known 0 layer layer' same k (omega arith)))
+      old h = ap get (get_or_append_left fs (x ∷ []) no_formula k h) ∙ (all k ∙ sym (kept_below v s wf wf' known 0 layer layer' same k (omega arith)))
 
       past : length fs < k → Right k
-      past h = ap get (get_or_past (fs ++ x ∷ []) k no_facts (omega (arith, length_push fs x)))
+      past h = ap get (get_or_past (fs ++ x ∷ []) k no_formula (omega (arith, length_push fs x)))
           ∙ (none ∙ (sym (same falsity) ∙ sym (made_past (with_formula v s) wf'.formulas_fall 0 layer' k (omega (arith, length_push v.formulas s)))))
 
       last : length fs ≡ k → Right k
-      last e = ap get (get_or_push fs x no_facts k e)
+      last e = ap get (get_or_push fs x no_formula k e)
           ∙ (new ∙ (sym (made_at_end v s wf wf' known 0 layer layer' same) ∙ ap (ask (with_formula v s) 0 (λ _. layer')) (sym len ∙ e)))
 
   bounded : (limit : ℕ) → layer falsity ≤ limit → ((k : ℕ) → ask v 0 (λ _. layer) k ≤ limit) → layer (through (ask v 0 (λ _. layer)) s) ≤ limit →
@@ -182,30 +189,30 @@ module _ (v : Vocabulary) (s : Shape ℕ) (wf : WellFormed v) (wf' : WellFormed 
       last e = subst (λ n. ask (with_formula v s) 0 (λ _. layer') n ≤ limit) e (subst (λ n. n ≤ limit) (sym (made_at_end v s wf wf' known 0 layer layer' same)) new)
 
 module _ (v : Vocabulary) (s : Shape ℕ) (wf : WellFormed v) (wf' : WellFormed (with_formula v s)) (known : (m : ℕ) → In m (operands s) → m < length v.formulas)
-    (fs : List Facts) (x : Facts) (len : length fs ≡ length v.formulas) where
-  typed_push : Typed v fs → x.ty ≡ type_of_layer v (through (type_of v) s) → Typed (with_formula v s) (fs ++ x ∷ [])
+    (fs : List Formula) (x : Formula) (len : length fs ≡ length v.formulas) where
+  typed_push : Typed v fs → x.facts.ty ≡ type_of_layer v (through (type_of v) s) → Typed (with_formula v s) (fs ++ x ∷ [])
   unfolding type_of
-  typed_push all new = reckoned v s wf wf' known fs x len (λ f. f.ty) (type_of_layer v) (type_of_layer (with_formula v s)) (type_layer_kept v s) refl all new
+  typed_push all new = reckoned v s wf wf' known fs x len (λ f. f.facts.ty) (type_of_layer v) (type_of_layer (with_formula v s)) (type_layer_kept v s) refl all new
 
-  weighed_push : Weighed v fs → x.weight ≡ weight_with v s → weight_with v s ≤ 4095 → Weighed (with_formula v s) (fs ++ x ∷ [])
+  weighed_push : Weighed v fs → x.facts.weight ≡ weight_with v s → weight_with v s ≤ 4095 → Weighed (with_formula v s) (fs ++ x ∷ [])
   unfolding weight
   weighed_push all new small k = (
-    reckoned v s wf wf' known fs x len (λ f. f.weight) weight_layer weight_layer (λ r. refl) refl (λ j. (all j).0) new k,
-    bounded v s wf wf' known fs x len (λ f. f.weight) weight_layer weight_layer (λ r. refl) 4095 (omega arith) (λ j. (all j).1) small k,
+    reckoned v s wf wf' known fs x len (λ f. f.facts.weight) weight_layer weight_layer (λ r. refl) refl (λ j. (all j).0) new k,
+    bounded v s wf wf' known fs x len (λ f. f.facts.weight) weight_layer weight_layer (λ r. refl) 4095 (omega arith) (λ j. (all j).1) small k,
   )
 
-  measured_push : Measured v fs → x.depth ≡ depth_with v s → depth_with v s ≤ 64 → Measured (with_formula v s) (fs ++ x ∷ [])
+  measured_push : Measured v fs → x.facts.depth ≡ depth_with v s → depth_with v s ≤ 64 → Measured (with_formula v s) (fs ++ x ∷ [])
   unfolding depth
   measured_push all new small k = (
-    reckoned v s wf wf' known fs x len (λ f. f.depth) depth_layer depth_layer (λ r. refl) refl (λ j. (all j).0) new k,
-    bounded v s wf wf' known fs x len (λ f. f.depth) depth_layer depth_layer (λ r. refl) 64 (omega arith) (λ j. (all j).1) small k,
+    reckoned v s wf wf' known fs x len (λ f. f.facts.depth) depth_layer depth_layer (λ r. refl) refl (λ j. (all j).0) new k,
+    bounded v s wf wf' known fs x len (λ f. f.facts.depth) depth_layer depth_layer (λ r. refl) 64 (omega arith) (λ j. (all j).1) small k,
   )
 
 -- what is kept when a record is entered
-pub stored_push : (v : Vocabulary) (r : Record) (rs : List Record) (fs : List Facts) (x : Facts) → length fs ≡ length v.formulas → Stored v rs fs
-    → objection v r ≡ None → formula_number v r ≡ None → x.ty ≡ type_of_layer v (through (type_of v) (shape_of r))
-    → x.weight ≡ weight_with v (shape_of r) → x.depth ≡ depth_with v (shape_of r) → Stored (with_formula v (shape_of r)) (rs ++ r ∷ []) (fs ++ x ∷ [])
-stored_push v r rs fs x len h allowed new ty weight depth =
+pub stored_push : (v : Vocabulary) (x : Formula) (fs : List Formula) → length fs ≡ length v.formulas → Stored v fs
+    → objection v x.entered ≡ None → formula_number v x.entered ≡ None → Fitting v x.entered x.facts → Stored (with_formula v (stored_shape x)) (fs ++ x ∷ [])
+stored_push v x fs len h allowed new fitting =
+    let r = x.entered in
     let s = shape_of r in
     let wf = h.well_formed in
     let wf' = well_entered v r wf allowed new in
@@ -214,22 +221,22 @@ stored_push v r rs fs x len h allowed new ty weight depth =
     let known = fits_known v r o.0 in
     record {
       well_formed = wf';
-      plain = plain_push rs r h.plain (fits_plain v r o.0);
-      typed = typed_push v s wf wf' known fs x len h.typed ty;
-      weighed = weighed_push v s wf wf' known fs x len h.weighed weight small.0;
-      measured = measured_push v s wf wf' known fs x len h.measured depth small.1;
+      plain = plain_push fs x h.plain (fits_plain v r o.0);
+      typed = typed_push v s wf wf' known fs x len h.typed fitting.ty;
+      weighed = weighed_push v s wf wf' known fs x len h.weighed fitting.weight small.0;
+      measured = measured_push v s wf wf' known fs x len h.measured fitting.depth small.1;
     }
 
-pub enter_full : (v : Vocabulary) (k a b : ℕ) (kind : Kind) → Some kind ≡ kind_numbered k
-    → None ≡ objection v (entry kind a b) → None ≡ formula_number v (entry kind a b)
-    → 2048 ≤ length v.formulas → enter_formula v k a b ≡ refused FormulasFull v
-enter_full v k a b kind e o n full =
-    let r : Record = entry kind a b in
-    ap (enter_kind v a b) (sym e) ∙ (ap (enter_unless v r) (sym o) ∙ (ap (settle v r) (sym n)
-    ∙ cond-false (ltb (length v.formulas) 2048) (granted (length v.formulas) (with_formula v (shape_of r))) (refused FormulasFull v) (le-ltb (length v.formulas) 2048 full)))
+-- what stands against a record is what its entering answers
+pub enter_refused : (v : Vocabulary) (k a b : ℕ) (kind : Kind) (e : Refusal) → Ok kind ≡ kind_or_refusal k → objection v (entry kind a b) ≡ Some e → enter_formula v k a b ≡ refused e v
+enter_refused v k a b kind e h o = go (kind_numbered k) h
+  where
+    go : (found : Option Kind) → Ok kind ≡ ok_or found UnknownKind → enter_kind v a b found ≡ refused e v
+    go None h = let z : ◌≡◌ {A = ℕ} 0 1 = cc in absurd (omega arith)
+    go (Some j) h = let i : j ≡ kind = cc in ap (λ (l : Kind). enter_unless v (entry l a b) (objection v (entry l a b))) i ∙ ap (enter_unless v (entry kind a b)) o
 
 -- a search among the records is a search among the shapes
-pub found_record : (r : Record) (rs : List Record) → Plain rs → found (same_record r) rs ≡ found (λ (s : Shape ℕ). same_record r (record_of s)) (map shape_of rs)
+pub found_record : (r : Record) (fs : List Formula) → Plain fs → found (λ (f : Formula). same_record r f.entered) fs ≡ found (λ (s : Shape ℕ). same_record r (record_of s)) (map stored_shape fs)
 found_record r [] all = refl
 found_record r (x ∷ xs) all =
-    ap₂ (λ (b : Bool) (o : Option ℕ). cond b (Some 0) (option_map suc o)) (sym (ap (same_record r) (back x (all 0)))) (found_record r xs (λ k. all (suc k)))
+    ap₂ (λ (b : Bool) (o : Option ℕ). cond b (Some 0) (option_map suc o)) (sym (ap (same_record r) (back x.entered (all 0)))) (found_record r xs (λ k. all (suc k)))

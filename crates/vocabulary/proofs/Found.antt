@@ -1,21 +1,24 @@
-use Rattle.std.proofs.Common.{◌≡◌, ℕ, zero, suc, ◌<◌, Bool, true, false, List, [], ◌∷◌, length, get_or, Some, None, sym, refl, ap, ◌∙◌, arith}
+-- The place of the first that passes a test, as the library tells it and as the logic does.
+use Rattle.std.proofs.Common.{◌≡◌, ℕ, suc, ◌+◌, Bool, true, false, cond, not, ltb, List, [], ◌∷◌, length, Some, None, Option, refl, ap, ◌∙◌, arith}
 use Rattle.std.specs.Option.{option_map}
-use Rattle.std.proofs.lemmas.Bool.{cond-true, cond-false}
+use Rattle.std.specs.List.{position, position_or_len}
 use Rattle.logic.specs.Deciding.{found}
-use Rattle.formulas.specs.declared.records.Record.{Record}
-use Rattle.formulas.specs.declared.kinds.Kind.TheVariants.{Variable}
 
-pub found_none : {A : Type 0} (p : A → Bool) (xs : List A) (d : A) → ((k : ℕ) → k < length xs → p (get_or xs k d) ≡ false) → None ≡ found p xs
-found_none p [] d h = refl
-found_none p (x ∷ xs) d h =
-    sym (cond-false (p x) (Some 0) (option_map suc (found p xs)) (h 0 (omega arith)) ∙ ap (option_map suc) (sym (found_none p xs d (λ k l. h (suc k) (omega arith)))))
+one_more : (n m : ℕ) → ltb (1 + n) (suc m) ≡ ltb n m
+one_more n m = grind arith
 
-pub found_at : {A : Type 0} (p : A → Bool) (xs : List A) (d : A) (i : ℕ) → i < length xs → ((k : ℕ) → k < i → p (get_or xs k d) ≡ false) → p (get_or xs i d) ≡ true → Some i ≡ found p xs
-found_at p [] d i l h e = absurd (omega arith)
-found_at p (x ∷ xs) d zero l h e = sym (cond-true (p x) (Some 0) (option_map suc (found p xs)) e)
-found_at p (x ∷ xs) d (suc i) l h e =
-    sym (cond-false (p x) (Some 0) (option_map suc (found p xs)) (h 0 (omega arith)) ∙ ap (option_map suc) (sym (found_at p xs d i (omega arith) (λ k j. h (suc k) (omega arith)) e)))
+some_left : (m : ℕ) → ltb 0 (suc m) ≡ true
+some_left m = grind arith
 
--- what a read of the code has past the end: the first variant, and 0
-abbrev pub first_default : Record
-first_default = record { kind = Variable; a = 0; b = 0 }
+later : (b : Bool) (n : ℕ) → cond b (Some (1 + n)) None ≡ option_map suc (cond b (Some n) None)
+later true n = ap Some (omega arith)
+later false n = refl
+
+step : (b : Bool) (n m : ℕ) (o : Option ℕ) → cond (ltb n m) (Some n) None ≡ o →
+    cond (ltb (cond (not b) (1 + n) 0) (suc m)) (Some (cond (not b) (1 + n) 0)) None ≡ cond b (Some 0) (option_map suc o)
+step true n m o e = ap (λ (b : Bool). cond b (Some 0) None) (some_left m)
+step false n m o e = ap (λ (b : Bool). cond b (Some (1 + n)) None) (one_more n m) ∙ (later (ltb n m) n ∙ ap (option_map suc) e)
+
+pub position_found : {A : Type 0} (p : A → Bool) (xs : List A) → position p xs ≡ found p xs
+position_found p [] = refl
+position_found p (x ∷ xs) = step (p x) (position_or_len p xs) (length xs) (found p xs) (position_found p xs)

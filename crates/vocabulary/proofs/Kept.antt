@@ -1,5 +1,5 @@
 -- What a vocabulary keeps when it is begun and when a type, a variable or a set name is added.
-use Rattle.std.proofs.Common.{◌≡◌, ℕ, ◌<◌, T, ltb, List, [], length, is_some, None, Option, sym, refl, ap, ◌∙◌, subst, subst₂, inl, inr, arith}
+use Rattle.std.proofs.Common.{◌≡◌, ℕ, ◌<◌, T, ltb, List, [], length, is_some, None, Option, Ok, Err, Result, ◌++◌, ◌∷◌, sym, refl, ap, ◌∙◌, subst, inl, inr, arith}
 use Rattle.std.proofs.lemmas.Bool.{cond-true, lt-ltb}
 use Rattle.logic.specs.Formulas.{In, Shape, Sort, carrier, parts, sort, Vocabulary, node, ask, descend, weight, depth, WellFormed}
 use Rattle.logic.specs.Growing.{empty_vocabulary, with_type, with_variable, with_set}
@@ -9,29 +9,29 @@ use Rattle.logic.proofs.Deciding.{product_some}
 use Rattle.logic.proofs.Entering.{starts_well}
 use Rattle.logic.proofs.Adding.{type_with_type, type_with_variable, type_with_set}
 use Rattle.formulas.specs.declared.records.TypeDef.{TypeDef}
-use Rattle.formulas.specs.declared.records.Record.{Record}
-use Rattle.vocabulary.specs.declared.facts.Facts.{Facts}
+use Rattle.vocabulary.specs.declared.facts.Formula.{Formula}
 use Rattle.formulas.specs.declared.refusals.Refusal.TheVariants.{TypesFull}
 use Rattle.vocabulary.specs.Calls.{granted, refused, add_type}
-use Rattle.vocabulary.specs.Lists.{view}
+use Rattle.formulas.specs.declared.refusals.Refusal.{Refusal}
+use Rattle.vocabulary.specs.Lists.{Appends, view}
 use Rattle.vocabulary.specs.Stored.{Weighed, Measured, Stored}
 
 pub sure : {A : Type 0} → A → Sure A
 sure a b k = k a
 
-pub begun : (ts : List TypeDef) (vs ss : List ℕ) (rs : List Record) → ts ≡ [] → vs ≡ [] → ss ≡ [] → rs ≡ [] → empty_vocabulary ≡ view ts vs ss rs
-begun ts vs ss rs t v s r =
-    sym (ap (λ (x : List TypeDef). view x vs ss rs) t ∙ (ap (λ (x : List ℕ). view [] x ss rs) v ∙ (ap (λ (x : List ℕ). view [] [] x rs) s ∙ ap (view [] [] []) r)))
+pub begun : (ts : List TypeDef) (vs ss : List ℕ) (fs : List Formula) → ts ≡ [] → vs ≡ [] → ss ≡ [] → fs ≡ [] → empty_vocabulary ≡ view ts vs ss fs
+begun ts vs ss fs t v s f =
+    sym (ap (λ (x : List TypeDef). view x vs ss fs) t ∙ (ap (λ (x : List ℕ). view [] x ss fs) v ∙ (ap (λ (x : List ℕ). view [] [] x fs) s ∙ ap (view [] [] []) f)))
 
 -- a new vocabulary
-pub begun_stored : (rs : List Record) (fs : List Facts) (v : Vocabulary) → empty_vocabulary ≡ v → rs ≡ [] → fs ≡ [] → Stored v rs fs
+pub begun_stored : (fs : List Formula) (v : Vocabulary) → empty_vocabulary ≡ v → fs ≡ [] → Stored v fs
 unfolding type_of weight depth ask descend node
-begun_stored rs fs v e r f =
-    subst (λ (w : Vocabulary). Stored w rs fs) e (subst₂ (Stored empty_vocabulary) (sym r) (sym f)
+begun_stored fs v e f =
+    subst (λ (w : Vocabulary). Stored w fs) e (subst (Stored empty_vocabulary) (sym f)
     (record { well_formed = starts_well; plain = λ k. refl; typed = λ k. refl; weighed = λ k. (refl, omega arith); measured = λ k. (refl, omega arith) }))
 
 -- weight and depth are read from the formulas alone
-module _ (v w : Vocabulary) (fs : List Facts) (same : w.formulas ≡ v.formulas) where
+module _ (v w : Vocabulary) (fs : List Formula) (same : w.formulas ≡ v.formulas) where
   weighed_kept : Weighed v fs → Weighed w fs
   unfolding weight ask node
   weighed_kept h = subst (λ (xs : List (Shape ℕ)). Weighed (record { types = w.types; variables = w.variables; sets = w.sets; formulas = xs }) fs) (sym same) h
@@ -41,8 +41,8 @@ module _ (v w : Vocabulary) (fs : List Facts) (same : w.formulas ≡ v.formulas)
   measured_kept h = subst (λ (xs : List (Shape ℕ)). Measured (record { types = w.types; variables = w.variables; sets = w.sets; formulas = xs }) fs) (sym same) h
 
 -- a vocabulary with other types, variables or set names and the same formulas
-stored_with : (v w : Vocabulary) (rs : List Record) (fs : List Facts) → Stored v rs fs → WellFormed w → w.formulas ≡ v.formulas → ((k : ℕ) → type_of w k ≡ type_of v k) → Stored w rs fs
-stored_with v w rs fs h wf same types = record {
+stored_with : (v w : Vocabulary) (fs : List Formula) → Stored v fs → WellFormed w → w.formulas ≡ v.formulas → ((k : ℕ) → type_of w k ≡ type_of v k) → Stored w fs
+stored_with v w fs h wf same types = record {
   well_formed = wf;
   plain = h.plain;
   typed = λ k. h.typed k ∙ sym (types k);
@@ -50,15 +50,21 @@ stored_with v w rs fs h wf same types = record {
   measured = measured_kept v w fs same h.measured;
 }
 
-module _ (v : Vocabulary) (rs : List Record) (fs : List Facts) (h : Stored v rs fs) where
-  pub stored_with_type : (s : Sort ℕ) → WellFormed (with_type v s) → Stored (with_type v s) rs fs
-  stored_with_type s wf = stored_with v (with_type v s) rs fs h wf refl (type_with_type v h.well_formed s wf)
+module _ (v : Vocabulary) (fs : List Formula) (h : Stored v fs) where
+  pub stored_with_type : (s : Sort ℕ) → WellFormed (with_type v s) → Stored (with_type v s) fs
+  stored_with_type s wf = stored_with v (with_type v s) fs h wf refl (type_with_type v h.well_formed s wf)
 
-  pub stored_with_variable : (t : ℕ) → WellFormed (with_variable v t) → Stored (with_variable v t) rs fs
-  stored_with_variable t wf = stored_with v (with_variable v t) rs fs h wf refl (type_with_variable v h.well_formed t wf)
+  pub stored_with_variable : (t : ℕ) → WellFormed (with_variable v t) → Stored (with_variable v t) fs
+  stored_with_variable t wf = stored_with v (with_variable v t) fs h wf refl (type_with_variable v h.well_formed t wf)
 
-  pub stored_with_set : (t : ℕ) → WellFormed (with_set v t) → Stored (with_set v t) rs fs
-  stored_with_set t wf = stored_with v (with_set v t) rs fs h wf refl (type_with_set v h.well_formed t wf)
+  pub stored_with_set : (t : ℕ) → WellFormed (with_set v t) → Stored (with_set v t) fs
+  stored_with_set t wf = stored_with v (with_set v t) fs h wf refl (type_with_set v h.well_formed t wf)
+
+-- what is so of a list before and after an item is appended is so whether it was appended or refused
+pub appended : {A : Type 0} (P : List A → Type 0) (old new : List A) (item : A) (most : ℕ) (full : Refusal) (r : Result ℕ Refusal)
+    → Appends old new item most full r → P old → P (old ++ item ∷ []) → P new
+appended P old new item most full (Ok n) h before after = subst P (sym h.2) after
+appended P old new item most full (Err e) h before after = subst P (sym h.2) before
 
 pub carrier_once : (v : Vocabulary) (t a b : ℕ) → carrier ≡ logic.product a b → t < length v.types → sort v t ≡ carrier → ⊥
 carrier_once v t a b e h i = let z : ◌≡◌ {A = ℕ} 0 1 = cc in absurd (omega arith)

@@ -7,34 +7,34 @@ use Rattle.logic.specs.Formulas.{Shape, Sort, Vocabulary, node, WellFormed, weig
 use Rattle.logic.specs.Growing.{with_type, with_formula}
 use Rattle.logic.specs.Deciding.{found, type_of, Sure}
 use Rattle.logic.proofs.Restoring.{sure_same, sure_most, sure_well_formed}
-use Rattle.formulas.specs.Records.{shape_of, sort_of, plain, record_at, record_of, no_record}
+use Rattle.formulas.specs.Records.{sort_of, plain, record_of}
 use Rattle.formulas.proofs.Shapes.{back}
 use Rattle.vocabulary.specs.declared.facts.Facts.{Facts}
-use Rattle.vocabulary.specs.Stored.{facts_at, Stored}
+use Rattle.vocabulary.specs.declared.facts.Formula.{Formula}
+use Rattle.vocabulary.specs.Stored.{no_formula, formula_at, Stored}
 use Rattle.formulas.specs.declared.records.TypeDef.{TypeDef}
-use Rattle.formulas.specs.declared.records.Record.{Record}
 use Rattle.vocabulary.specs.declared.store.Vocabulary as store
-use Rattle.vocabulary.specs.Lists.{view}
+use Rattle.vocabulary.specs.Lists.{view, stored_shape}
 use Rattle.vocabulary.specs.View.{model}
 
 -- what is kept as far as tests tell is so
-restored : (v : Vocabulary) (rs : List Record) (fs : List Facts) → Sure (Stored v rs fs) → Stored v rs fs
-restored v rs fs sure = record {
+restored : (v : Vocabulary) (fs : List Formula) → Sure (Stored v fs) → Stored v fs
+restored v fs sure = record {
   well_formed = sure_well_formed v λ b k. sure b λ s. k s.well_formed;
-  plain = λ k. sure (plain (record_at rs k)) λ s. s.plain k;
-  typed = λ k. sure_same sure (facts_at fs k).ty (type_of v k) λ s. s.typed k;
-  weighed = λ k. (sure_same sure (facts_at fs k).weight (weight v k) λ s. (s.weighed k).0, sure_most sure (weight v k) 4095 λ s. (s.weighed k).1);
-  measured = λ k. (sure_same sure (facts_at fs k).depth (depth v k) λ s. (s.measured k).0, sure_most sure (depth v k) 64 λ s. (s.measured k).1);
+  plain = λ k. sure (plain (formula_at fs k).entered) λ s. s.plain k;
+  typed = λ k. sure_same sure (formula_at fs k).facts.ty (type_of v k) λ s. s.typed k;
+  weighed = λ k. (sure_same sure (formula_at fs k).facts.weight (weight v k) λ s. (s.weighed k).0, sure_most sure (weight v k) 4095 λ s. (s.weighed k).1);
+  measured = λ k. (sure_same sure (formula_at fs k).facts.depth (depth v k) λ s. (s.measured k).0, sure_most sure (depth v k) 64 λ s. (s.measured k).1);
 }
 
-pub stored : (v : store.Vocabulary) → Stored (model v) (vec_items v.records) (vec_items v.facts)
-stored v = restored (model v) (vec_items v.records) (vec_items v.facts) v.stored
+pub stored : (v : store.Vocabulary) → Stored (model v) (vec_items v.formulas)
+stored v = restored (model v) (vec_items v.formulas) v.stored
 
 pub well_formed : (v : store.Vocabulary) → WellFormed (model v)
 well_formed v = (stored v).well_formed
 
 -- what is stored of formula n is what the definitions say
-pub facts_read : (v : store.Vocabulary) (n : ℕ) (f : Facts) → f ≡ facts_at (vec_items v.facts) n →
+pub facts_read : (v : store.Vocabulary) (n : ℕ) (f : Facts) → f ≡ (formula_at (vec_items v.formulas) n).facts →
     (f.ty ≡ type_of (model v) n) × (f.weight ≡ weight (model v) n) × (f.depth ≡ depth (model v) n) × (f.weight ≤ 4095) × (f.depth ≤ 64)
 facts_read v n f e =
     let s = stored v in
@@ -46,20 +46,20 @@ pub found_map : {A B : Type 0} (f : A → B) (p : B → Bool) (xs : List A) → 
 found_map f p [] = refl
 found_map f p (x ∷ xs) = ap (λ (o : Option ℕ). cond (p (f x)) (Some 0) (option_map suc o)) (found_map f p xs)
 
-pub node_view : (ts : List TypeDef) (vs ss : List ℕ) (rs : List Record) (n : ℕ) → node (view ts vs ss rs) n ≡ shape_of (record_at rs n)
+node_view : (ts : List TypeDef) (vs ss : List ℕ) (fs : List Formula) (n : ℕ) → node (view ts vs ss fs) n ≡ stored_shape (formula_at fs n)
 unfolding node
-node_view ts vs ss rs n = get_or-map shape_of rs n no_record
+node_view ts vs ss fs n = get_or-map stored_shape fs n no_formula
 
 -- the record in memory is that of the formula; past the end, that of ⊥
-pub record_read : (v : store.Vocabulary) (n : ℕ) (r : Record) → r ≡ record_at (vec_items v.records) n → r ≡ record_of (node (model v) n)
-record_read v n r e =
-    let rs = vec_items v.records in
-    e ∙ sym (ap record_of (node_view (vec_items v.types) (vec_items v.variables) (vec_items v.set_names) rs n) ∙ back (record_at rs n) ((stored v).plain n))
+pub record_read : (v : store.Vocabulary) (n : ℕ) → (formula_at (vec_items v.formulas) n).entered ≡ record_of (node (model v) n)
+record_read v n =
+    let fs = vec_items v.formulas in
+    sym (ap record_of (node_view (vec_items v.types) (vec_items v.variables) (vec_items v.set_names) fs n) ∙ back (formula_at fs n).entered ((stored v).plain n))
 
-pub view_with_formula : (ts : List TypeDef) (vs ss : List ℕ) (rs : List Record) (r : Record) → view ts vs ss (rs ++ r ∷ []) ≡ with_formula (view ts vs ss rs) (shape_of r)
-view_with_formula ts vs ss rs r =
-    ap (λ (fs : List (Shape ℕ)). record { types = map sort_of ts; variables = vs; sets = ss; formulas = fs }) (map-append shape_of rs (r ∷ []))
+pub view_with_formula : (ts : List TypeDef) (vs ss : List ℕ) (fs : List Formula) (f : Formula) → view ts vs ss (fs ++ f ∷ []) ≡ with_formula (view ts vs ss fs) (stored_shape f)
+view_with_formula ts vs ss fs f =
+    ap (λ (xs : List (Shape ℕ)). record { types = map sort_of ts; variables = vs; sets = ss; formulas = xs }) (map-append stored_shape fs (f ∷ []))
 
-pub view_with_type : (ts : List TypeDef) (vs ss : List ℕ) (rs : List Record) (d : TypeDef) → view (ts ++ d ∷ []) vs ss rs ≡ with_type (view ts vs ss rs) (sort_of d)
-view_with_type ts vs ss rs d =
-    ap (λ (xs : List (Sort ℕ)). record { types = xs; variables = vs; sets = ss; formulas = map shape_of rs }) (map-append sort_of ts (d ∷ []))
+pub view_with_type : (ts : List TypeDef) (vs ss : List ℕ) (fs : List Formula) (d : TypeDef) → view (ts ++ d ∷ []) vs ss fs ≡ with_type (view ts vs ss fs) (sort_of d)
+view_with_type ts vs ss fs d =
+    ap (λ (xs : List (Sort ℕ)). record { types = xs; variables = vs; sets = ss; formulas = map stored_shape fs }) (map-append sort_of ts (d ∷ []))

@@ -5,4 +5,4 @@ use Rattle.vocabulary.specs.declared.store.Vocabulary.{Vocabulary}
 use Rattle.vocabulary.specs.Lists.{view}
 
 abbrev pub model : Vocabulary → logic.Vocabulary
-model v = view (vec_items v.types) (vec_items v.variables) (vec_items v.set_names) (vec_items v.records)
+model v = view (vec_items v.types) (vec_items v.variables) (vec_items v.set_names) (vec_items v.formulas)

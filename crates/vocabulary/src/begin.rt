@@ -10,24 +10,22 @@ use std::alloc::{AllocError, Global};
 
 impl Vocabulary {
     // An empty vocabulary, with all the memory that it will ever need.
-    pub fn new(heap: Global) -> Result<Vocabulary, AllocError>
+    pub fn new(alloc: Global) -> Result<Vocabulary, AllocError>
         ensures { IfOk result (λ v. model v ≡ empty_vocabulary) }
     {
-        let types = Vec::with_capacity(heap, MAX_TYPES)?;
-        let variables = Vec::with_capacity(heap, MAX_VARIABLES)?;
-        let set_names = Vec::with_capacity(heap, MAX_SET_NAMES)?;
-        let records = Vec::with_capacity(heap, MAX_FORMULAS)?;
-        let facts = Vec::with_capacity(heap, MAX_FORMULAS)?;
+        let types = Vec::with_capacity(alloc, MAX_TYPES)?;
+        let variables = Vec::with_capacity(alloc, MAX_VARIABLES)?;
+        let set_names = Vec::with_capacity(alloc, MAX_SET_NAMES)?;
+        let formulas = Vec::with_capacity(alloc, MAX_FORMULAS)?;
         Ok(Vocabulary {
             types,
             variables,
             set_names,
-            records,
-            facts,
+            formulas,
         })
     }
 
-    // Every vocabulary is well formed and within its limits.
+    // Every vocabulary is well formed and within its limits, so the answer is always yes; the other clauses are what a caller gets.
     pub fn is_well_formed(&self) -> bool
         ensures answer { result ≡ true }
         ensures formed { WellFormed (model self.now) }

@@ -8,10 +8,12 @@ use formulas::calls::Call;
 use formulas::refusals::Refusal;
 
 impl Vocabulary {
+    // The call by its definition; `enter` adds the law, which is proved of the five at once.
     fn dispatch(&mut self, call: Call) -> Result<u16, Refusal>
         ensures answer { result ≡ (called (model self.old) call).answer }
         ensures after { model self.new ≡ (called (model self.old) call).after }
     {
+        // A call is data, which scripts write and the law speaks of: no closure could be written out or compared.
         match call {
             Call::NewCarrier => self.new_carrier(),
             Call::NewProduct(s, t) => self.product(s, t),

@@ -1,16 +1,16 @@
 // Entering formulas.
-ghost use Rattle.std.specs.Prelude.{◌≡◌, ◌<◌, ◌≤◌, length, None};
+ghost use Rattle.std.specs.Prelude.{◌≡◌, ◌≤◌, None, Ok};
 ghost use Rattle.logic.specs.Deciding.{agreed, type_of, type_of_layer};
 ghost use Rattle.logic.specs.Formulas.{through, weight, depth};
-ghost use Rattle.logic.specs.Growing.{with_formula};
 ghost use Rattle.formulas.specs.Records.{shape_of};
-ghost use Rattle.vocabulary.specs.Calls.{depth_with, enter_formula, fits, formula_number, objection, operands_fit, weight_with};
-ghost use Rattle.vocabulary.specs.Leaves.{agree_from, part, type_from};
+ghost use Rattle.vocabulary.specs.Calls.{depth_with, enter_formula, fits, formula_number, operands_fit, settle, weight_with};
+ghost use Rattle.vocabulary.specs.Leaves.{Admits, agree_from, part, type_from};
 ghost use Rattle.vocabulary.specs.View.{model};
 
-use crate::facts::Facts;
+use crate::facts::{Facts, Formula};
 use crate::limits::{MAX_DEPTH, MAX_FORMULAS, MAX_WEIGHT};
 use crate::store::Vocabulary;
+use crate::types::append;
 use formulas::kinds::{Kind, Role};
 use formulas::records::Record;
 use formulas::refusals::Refusal;
@@ -25,7 +25,7 @@ impl Vocabulary {
             Role::AVariable => self.knows_variable(n),
             Role::Expression => self.is_expression(n),
             Role::Predicate => self.is_predicate(n),
-            Role::ASetName => (n as usize) < self.set_names.len(),
+            Role::ASetName => usize::from(n) < self.set_names.len(),
         }
     }
 
@@ -35,7 +35,7 @@ impl Vocabulary {
         self.fits(r.kind.first_role(), r.a) && self.fits(r.kind.second_role(), r.b)
     }
 
-    // What an operand adds to the weight and to the depth, and its type.
+    // What an operand adds to the weight and to the depth, and its type; one that is no formula adds nothing, which 0 says.
     fn facts_of_operand(&self, role: Role, n: u16) -> Facts
         ensures ty { result.ty ≡ part 0 (type_of (model self.now)) role n }
         ensures weight { result.weight ≡ part 0 (weight (model self.now)) role n }
@@ -53,33 +53,29 @@ impl Vocabulary {
         self.facts_at(n)
     }
 
-    // The type of a formula, from the types of its operands.
+    // The type of a formula, from the types of its operands; 0 and no Option where it has none, as every stored type is a number.
     fn type_from(&self, r: Record, first: u16, second: u16) -> u16
         ensures { result ≡ type_from (model self.now) r first second }
     {
-        if r.kind.is_variable() {
-            self.variable_type(r.a)
-        } else if r.kind.is_pair() {
-            self.product_number(first, second).unwrap_or(0)
-        } else {
-            0
+        match r.kind {
+            Kind::Variable => self.variable_type(r.a),
+            Kind::Pair => self.product_number(first, second).unwrap_or(0),
+            _ => 0,
         }
     }
 
     fn agree_from(&self, r: Record, first: u16, second: u16) -> bool
         ensures { result ≡ agree_from (model self.now) r first second }
     {
-        if r.kind.is_pair() {
-            self.product_number(first, second).is_some()
-        } else if r.kind.is_equal() {
-            first == second
-        } else if r.kind.is_member() {
-            first == self.set_type(r.b)
-        } else {
-            true
+        match r.kind {
+            Kind::Pair => self.product_number(first, second).is_some(),
+            Kind::Equal => first == second,
+            Kind::Member => first == self.set_type(r.b),
+            _ => true,
         }
     }
 
+    // This and `facts_of` each read the operands, so that their contracts speak of the record alone.
     fn types_agree(&self, r: Record) -> bool
         ensures { result ≡ agreed (model self.now) (shape_of r) }
     {
@@ -104,65 +100,59 @@ impl Vocabulary {
         }
     }
 
-    fn objection(&self, r: Record) -> Option<Refusal>
-        ensures { result ≡ objection (model self.now) r }
+    // The facts of a record that may be entered, or why it may not.
+    fn admit(&self, r: Record) -> Result<Facts, Refusal>
+        ensures { Admits (model self.now) r result }
     {
         if !self.operands_fit(r) {
-            return Some(Refusal::WrongOperand);
+            return Err(Refusal::WrongOperand);
         }
         if !self.types_agree(r) {
-            return Some(Refusal::TypesDisagree);
+            return Err(Refusal::TypesDisagree);
         }
-        let f = self.facts_of(r);
-        if f.weight > MAX_WEIGHT || f.depth > MAX_DEPTH {
-            return Some(Refusal::TooLarge);
+        let facts = self.facts_of(r);
+        if facts.weight > MAX_WEIGHT || facts.depth > MAX_DEPTH {
+            return Err(Refusal::TooLarge);
         }
-        None
+        Ok(facts)
     }
 
     // The number of the formula that has a record, if there is one.
     pub fn formula_number(&self, r: Record) -> Option<u16>
         ensures { result ≡ formula_number (model self.now) r }
     {
-        for (i, s) in self.records.iter().enumerate() {
-            if r.same(*s) {
-                return Some(i as u16);
-            }
-        }
-        None
+        self.formulas
+            .iter()
+            .position(|f| f.entered == r)
+            .map(|n| n as u16)
     }
 
-    fn append(&mut self, r: Record) -> u16
-        requires allowed { objection (model self.old) r ≡ None }
+    // Enters a record that may be entered and is new, unless the vocabulary is full.
+    fn enter_record(&mut self, r: Record, facts: Facts) -> Result<u16, Refusal>
+        requires admitted { Admits (model self.old) r (Ok facts) }
         requires fresh { formula_number (model self.old) r ≡ None }
-        requires room { length (model self.old).formulas < 2048 }
-        ensures answer { result ≡ length (model self.old).formulas }
-        ensures after { model self.new ≡ with_formula (model self.old) (shape_of r) }
+        ensures answer { result ≡ (settle (model self.old) r None).answer }
+        ensures after { model self.new ≡ (settle (model self.old) r None).after }
     {
-        let f = self.facts_of(r);
-        let n = self.formula_count();
-        self.records.push_reserved(r);
-        self.facts.push_reserved(f);
-        n as u16
+        let formula = Formula { entered: r, facts };
+        append(
+            &mut self.formulas,
+            formula,
+            MAX_FORMULAS,
+            Refusal::FormulasFull,
+        )
     }
 
     pub fn enter_formula(&mut self, kind: u16, a: u16, b: u16) -> Result<u16, Refusal>
         ensures answer { result ≡ (enter_formula (model self.old) kind a b).answer }
         ensures after { model self.new ≡ (enter_formula (model self.old) kind a b).after }
     {
-        let Some(kind) = Kind::from_number(kind) else {
-            return Err(Refusal::UnknownKind);
-        };
+        let kind = Kind::try_from(kind)?;
         let r = Record { kind, a, b };
-        if let Some(e) = self.objection(r) {
-            return Err(e);
+        let facts = self.admit(r)?;
+        match self.formula_number(r) {
+            Some(n) => Ok(n),
+            None => self.enter_record(r, facts),
         }
-        if let Some(n) = self.formula_number(r) {
-            return Ok(n);
-        }
-        if self.formula_count() >= MAX_FORMULAS {
-            return Err(Refusal::FormulasFull);
-        }
-        Ok(self.append(r))
     }
 }

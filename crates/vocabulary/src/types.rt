@@ -1,10 +1,11 @@
 // The calls that enter types, variables and set names.
-ghost use Rattle.std.specs.Prelude.{◌≡◌, ℕ, ◌<◌, length, vec_len, ◌≢◌};
+ghost use Rattle.std.specs.Prelude.{◌≡◌, ℕ, ◌<◌, ◌≤◌, length, max, vec_len, vec_capacity, ◌≢◌};
 ghost use Rattle.logic.specs.Deciding.{product_number};
 ghost use Rattle.logic.specs.Formulas as logic;
 ghost use Rattle.logic.specs.Formulas.{In, parts, sort};
 ghost use Rattle.formulas.specs.Records.{sort_of};
 ghost use Rattle.vocabulary.specs.Calls.{add_type, knows_type, new_carrier, new_set_name, new_variable, product};
+ghost use Rattle.vocabulary.specs.Lists.{Appends};
 ghost use Rattle.vocabulary.specs.View.{model};
 
 use crate::limits::{MAX_SET_NAMES, MAX_TYPES, MAX_VARIABLES};
@@ -12,18 +13,32 @@ use crate::store::Vocabulary;
 use formulas::records::TypeDef;
 use formulas::refusals::Refusal;
 
-impl Vocabulary {
-    pub(crate) fn type_count(&self) -> usize
-        ensures model { result ≡ length (model self.now).types }
-        ensures memory { result ≡ vec_len self.now.types }
-    {
-        self.types.len()
+// Appends to a list that may hold so many, and answers the item's number; or refuses, when the list is full.
+pub(crate) fn append<T: Drop>(
+    list: &mut Vec<T>,
+    item: T,
+    most: usize,
+    full: Refusal,
+) -> Result<u16, Refusal>
+    requires short { most ≤ 65536 }
+    requires room { most ≤ vec_capacity list.old }
+    ensures items { Appends list.old.items list.new.items item most full result }
+    ensures few { vec_len list.new ≤ max most (vec_len list.old) }
+    ensures capacity { vec_capacity list.new ≡ vec_capacity list.old }
+{
+    let n = list.len();
+    if n >= most {
+        return Err(full);
     }
+    list.push_reserved(item);
+    Ok(n as u16)
+}
 
+impl Vocabulary {
     fn knows_type(&self, t: u16) -> bool
         ensures { result ≡ knows_type (model self.now) t }
     {
-        (t as usize) < self.type_count()
+        usize::from(t) < self.types.len()
     }
 
     fn add_type(&mut self, d: TypeDef) -> Result<u16, Refusal>
@@ -32,12 +47,7 @@ impl Vocabulary {
         ensures answer { result ≡ (add_type (model self.old) (sort_of d)).answer }
         ensures after { model self.new ≡ (add_type (model self.old) (sort_of d)).after }
     {
-        let n = self.type_count();
-        if n >= MAX_TYPES {
-            return Err(Refusal::TypesFull);
-        }
-        self.types.push_reserved(d);
-        Ok(n as u16)
+        append(&mut self.types, d, MAX_TYPES, Refusal::TypesFull)
     }
 
     pub fn new_carrier(&mut self) -> Result<u16, Refusal>
@@ -50,12 +60,10 @@ impl Vocabulary {
     pub(crate) fn product_number(&self, s: u16, t: u16) -> Option<u16>
         ensures { result ≡ product_number (model self.now) s t }
     {
-        for (i, d) in self.types.iter().enumerate() {
-            if d.is_product(s, t) {
-                return Some(i as u16);
-            }
-        }
-        None
+        self.types
+            .iter()
+            .position(|d| *d == TypeDef::Product(s, t))
+            .map(|n| n as u16)
     }
 
     pub fn product(&mut self, s: u16, t: u16) -> Result<u16, Refusal>
@@ -71,6 +79,7 @@ impl Vocabulary {
         }
     }
 
+    // This and `new_set_name` differ in what they hand to `append`, and have no more in common than two calls.
     pub fn new_variable(&mut self, t: u16) -> Result<u16, Refusal>
         ensures answer { result ≡ (new_variable (model self.old) t).answer }
         ensures after { model self.new ≡ (new_variable (model self.old) t).after }
@@ -78,12 +87,12 @@ impl Vocabulary {
         if !self.knows_type(t) {
             return Err(Refusal::UnknownType);
         }
-        let n = self.variables.len();
-        if n >= MAX_VARIABLES {
-            return Err(Refusal::VariablesFull);
-        }
-        self.variables.push_reserved(t);
-        Ok(n as u16)
+        append(
+            &mut self.variables,
+            t,
+            MAX_VARIABLES,
+            Refusal::VariablesFull,
+        )
     }
 
     pub fn new_set_name(&mut self, t: u16) -> Result<u16, Refusal>
@@ -93,11 +102,6 @@ impl Vocabulary {
         if !self.knows_type(t) {
             return Err(Refusal::UnknownType);
         }
-        let n = self.set_names.len();
-        if n >= MAX_SET_NAMES {
-            return Err(Refusal::SetNamesFull);
-        }
-        self.set_names.push_reserved(t);
-        Ok(n as u16)
+        append(&mut self.set_names, t, MAX_SET_NAMES, Refusal::SetNamesFull)
     }
 }

@@ -1,6 +1,6 @@
 // The worked example, run through the calls.
 use formulas::calls::Call;
-use formulas::refusals::{Layer, Refusal};
+use formulas::refusals::{Layer, Notice, Refusal};
 use questions::reading::{depth_of, type_of, weight_of};
 use questions::substitution::{is_free, is_substitution};
 use std::process::Abort;
@@ -107,7 +107,7 @@ fn products(rt: HostRuntime) -> Result<(), Fail> {
 
 #[test]
 fn notices(rt: HostRuntime) {
-    let notice = Refusal::TypesDisagree.notice();
+    let notice = Notice::from(Refusal::TypesDisagree);
     assert_eq!(rt; (notice.number, notice.place), (7, 0));
     assert_eq!(rt; notice.layer, Layer::Vocabulary);
 }

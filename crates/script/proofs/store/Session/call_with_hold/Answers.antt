@@ -1,23 +1,12 @@
 use Rattle.std.proofs.Common.{◌≡◌, ◌<◌, ◌≤◌, length, get_or, vec_items, vec_len, sym, refl, ap, ◌∙◌, subst, rules}
 use Rattle.book.specs.View as book
-use Rattle.script.specs.Sessions.{model, with_books, hold_call_reply_by, hold_called}
-use Rattle.std.specs.List.{slice_get}
+use Rattle.script.specs.Sessions.{model, with_books}
 use Rattle.replies.specs.Hands.{undergo}
 use Rattle.script.specs.Closing.{GrantedBy, modelled}
 use Rattle.script.proofs.Granting.{set_granted, at_granted, still_granted}
 use Rattle.script.proofs.Holding.{some_reply, some_after, none_reply, none_after}
-use Rattle.script.proofs.Shelved.{here, nowhere, put, set_nth, in_hand, not_in_hand}
+use Rattle.script.proofs.Shelved.{here, put, set_nth, in_hand, not_in_hand}
 use Rattle.script.proofs.store.Session.call_with_hold.Goals as goal
-
-pub returns-in_default : goal.returns-in_default
-returns-in_default c =
-    let s = c.args.self.now in
-    let past : length (vec_items s.books) ≤ s.current = search rules in
-    let at = nowhere (vec_items s.books) s.current past in
-    record {
-      answer = sym (ap (λ o. hold_call_reply_by c.args.call o (slice_get (vec_items s.holds) c.args.h)) at);
-      after = sym (ap (λ o. hold_called (model s) c.args.call c.args.h o (slice_get (vec_items s.holds) c.args.h)) at);
-    }
 
 pub invariant_of-self-in-Some-get_mut : goal.invariant_of-self-in-Some-get_mut
 invariant_of-self-in-Some-get_mut c =
@@ -28,7 +17,7 @@ invariant_of-self-in-Some-get_mut c =
     let is : x ≡ get_or holds c.args.h x = search rules in
     let n = vec_len s.books in
     let g = still_granted n c.args.call (book.model c.in-Some.book.now) x (at_granted n holds c.args.h x s.granted within is) in
-    record { granted = set_granted n holds c.args.h c.undergo.new.self s.granted (subst (GrantedBy n) (sym c.undergo.ensures.hand) g) }
+    record { granted = set_granted n holds c.args.h c.undergo.new.place s.granted (subst (GrantedBy n) (sym c.undergo.ensures.hand) g) }
 
 pub returns-in-Some-get_mut : goal.returns-in-Some-get_mut
 returns-in-Some-get_mut c =
@@ -47,7 +36,7 @@ returns-in-Some-get_mut c =
     let f = in_hand holds h x near this in
     record {
       answer = c.undergo.ensures.answer ∙ some_reply (model s) d h (book.model b) at x f;
-      after = some_after (model s) d h (book.model b) at x c.undergo.new.self _ f c.undergo.ensures.hand (put books s.current c.undergo.new.book (undergo d (book.model b) x).book c.undergo.ensures.book);
+      after = some_after (model s) d h (book.model b) at x c.undergo.new.place _ f c.undergo.ensures.hand (put books s.current c.undergo.new.book (undergo d (book.model b) x).book c.undergo.ensures.book);
     }
 
 pub returns-in-None : goal.returns-in-None

@@ -1,23 +1,16 @@
-use Rattle.std.proofs.Common.{◌≡◌, ◌<◌, ◌≤◌, true, length, get_or, set, vec_items, vec_len, sym, ap, ◌∙◌, subst, rules}
-use Rattle.script.specs.Sessions.{model, closed_reply_of, closed_of}
+use Rattle.std.proofs.Common.{◌≡◌, ◌<◌, true, length, get_or, set, vec_items, vec_len, sym, ◌∙◌, subst, rules}
+use Rattle.script.specs.Sessions.{model}
 use Rattle.script.specs.Closing.{GrantedBy, all_granted}
 use Rattle.script.proofs.Granting.{set_granted, at_granted}
 use Rattle.script.proofs.Holding.{closed_here, closed_after}
-use Rattle.script.proofs.Shelved.{in_hand, not_in_hand}
+use Rattle.script.proofs.Shelved.{in_hand}
 use Rattle.script.proofs.store.Session.close_hold.Goals as goal
-
-pub returns-in_err-get_mut : goal.returns-in_err-get_mut
-returns-in_err-get_mut c =
-    let s = c.args.self.now in
-    let past : length (vec_items s.holds) ≤ c.args.h = search rules in
-    let f = not_in_hand (vec_items s.holds) c.args.h past in
-    record { answer = c.from_residual.ensures ∙ sym (ap (closed_reply_of (model s) c.args.h) f); after = sym (ap (closed_of (model s) c.args.h) f) }
 
 pub close-requires : goal.close-requires
 close-requires c =
     let s = c.args.self.now in
     let holds = vec_items s.holds in
-    let x = c.replace-held.result in
+    let x = c.take-held.result in
     let within : c.args.h < length holds = search rules in
     let is : x ≡ get_or holds c.args.h x = search rules in
     at_granted (vec_len s.books) holds c.args.h x s.granted within is
@@ -26,18 +19,18 @@ pub invariant_of-self-2 : goal.invariant_of-self-2
 invariant_of-self-2 c =
     let s = c.args.self.now in
     let n = vec_len s.books in
-    let t = set_granted n (vec_items s.holds) c.args.h c.replace-held.new.dest s.granted (subst (GrantedBy n) (sym c.replace-held.ensures.after) tt) in
-    record { granted = subst (λ m. all_granted m (set (vec_items s.holds) c.args.h c.replace-held.new.dest) ≡ true) (sym c.close.ensures.len) t }
+    let t = set_granted n (vec_items s.holds) c.args.h c.take-held.new.self s.granted (subst (GrantedBy n) (sym c.take-held.ensures.after) tt) in
+    record { granted = subst (λ m. all_granted m (set (vec_items s.holds) c.args.h c.take-held.new.self) ≡ true) (sym c.close.ensures.len) t }
 
 pub returns : goal.returns
 returns c =
     let s = c.args.self.now in
     let holds = vec_items s.holds in
-    let x = c.replace-held.result in
+    let x = c.take-held.result in
     let within : c.args.h < length holds = search rules in
     let is : x ≡ get_or holds c.args.h x = search rules in
     let f = in_hand holds c.args.h x within is in
     record {
       answer = c.close.ensures.answer ∙ closed_here (model s) c.args.h x f;
-      after = closed_after (model s) c.args.h x f _ c.replace-held.new.dest c.close.ensures.after c.replace-held.ensures.after;
+      after = closed_after (model s) c.args.h x f _ c.take-held.new.self c.close.ensures.after c.take-held.ensures.after;
     }

@@ -1,17 +1,9 @@
-use Rattle.std.proofs.Common.{◌≡◌, ◌<◌, ◌≤◌, length, get_or, vec_items, sym, refl, subst, rules}
+use Rattle.std.proofs.Common.{◌≡◌, ◌<◌, length, get_or, vec_items, refl, rules}
 use Rattle.book.specs.View as book
-use Rattle.replies.specs.declared.reply.Reply.TheVariants.{NoSuchBook}
-use Rattle.script.specs.Sessions.{model, Concludes}
+use Rattle.script.specs.Sessions.{model}
 use Rattle.script.proofs.Holding.{emptied, concluded_here}
-use Rattle.script.proofs.Shelved.{here, nowhere, put}
+use Rattle.script.proofs.Shelved.{here, put}
 use Rattle.script.proofs.store.Session.conclude.Goals as goal
-
-pub returns-in_default : goal.returns-in_default
-returns-in_default c =
-    let s = c.args.self.now in
-    let past : length (vec_items s.books) ≤ s.current = search rules in
-    let at = nowhere (vec_items s.books) s.current past in
-    subst (λ o. Concludes (model s) c.args.citations.now o NoSuchBook (model s)) (sym at) (refl, refl)
 
 pub returns : goal.returns
 returns c =

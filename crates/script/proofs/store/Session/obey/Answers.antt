@@ -1,28 +1,9 @@
 use Rattle.std.proofs.Common.{Some, None, vec_items, sym, refl, ap, ◌∙◌, subst}
-use Rattle.replies.specs.declared.reply.Reply.TheVariants.{NotUnderstood}
 use Rattle.commands.specs.Commands.{request}
-use Rattle.script.specs.Sessions.{model, Concludes, appended, misread, current_book}
+use Rattle.script.specs.Sessions.{model, Concludes, appended, current_book}
 use Rattle.commands.proofs.Requests.{Has, has_numbers}
-use Rattle.script.proofs.Obeying.{did_nothing, did_misread, did_run, did_append, did_conclude}
+use Rattle.script.proofs.Obeying.{did_append, did_conclude}
 use Rattle.script.proofs.store.Session.obey.Goals as goal
-
-pub returns-in-Silent : goal.returns-in-Silent
-returns-in-Silent c =
-    let s = model c.args.self.now in
-    record { does = did_nothing s s None (request c.args.line.now) c.in-Silent.ensures refl refl; refused = tt }
-
-pub returns-in-NotUnderstood : goal.returns-in-NotUnderstood
-returns-in-NotUnderstood c =
-    let s = model c.args.self.now in
-    record { does = did_misread s (misread s) (Some (NotUnderstood c.next_line.result)) (request c.args.line.now) c.in-NotUnderstood.ensures (ap (λ k. Some (NotUnderstood k)) c.next_line.ensures) refl; refused = tt }
-
-pub returns-in-Asks : goal.returns-in-Asks
-returns-in-Asks c =
-    let s = model c.args.self.now in
-    record {
-      does = did_run s (model c.run.new.self) (request c.args.line.now) c.in-Asks.command c.run.result c.in-Asks.ensures c.run.ensures.answer c.run.ensures.after;
-      refused = c.run.ensures.refused;
-    }
 
 pub returns-in_ok-append-in-Hypotheses : goal.returns-in_ok-append-in-Hypotheses
 returns-in_ok-append-in-Hypotheses c =

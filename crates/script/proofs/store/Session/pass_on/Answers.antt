@@ -1,13 +1,12 @@
-use Rattle.std.proofs.Common.{◌≡◌, ◌<◌, ◌≤◌, length, get_or, vec_items, sym, refl, ap, ◌∙◌, subst, rules}
+use Rattle.std.proofs.Common.{◌≡◌, ◌<◌, length, get_or, vec_items, sym, ap, ◌∙◌, subst, rules}
 use Rattle.book.specs.View as book
-use Rattle.replies.specs.declared.reply.Reply.TheVariants.{NoSuchBook}
 use Rattle.replies.specs.Books.{after}
 use Rattle.script.specs.Sessions.{Asked, model, with_books, called}
-use Rattle.script.proofs.Shelved.{here, nowhere, put}
+use Rattle.script.proofs.Shelved.{here, put}
 use Rattle.script.proofs.store.Session.pass_on.Goals as goal
 
-pub returns-in-Some : goal.returns-in-Some
-returns-in-Some c =
+pub returns : goal.returns
+returns c =
     let s = c.args.self.now in
     let books = vec_items s.books in
     let b = c.in-Some.book.now in
@@ -19,15 +18,4 @@ returns-in-Some c =
       after =
           ap (λ bs. with_books (model s) bs s.current) (put books s.current c.answer.new.book (after (book.model b) c.args.call) c.answer.ensures.after)
           ∙ ap (called (model s) c.args.call) (sym at);
-    }
-
-pub returns-in-None : goal.returns-in-None
-returns-in-None c =
-    let s = c.args.self.now in
-    let books = vec_items s.books in
-    let past : length books ≤ s.current = search rules in
-    let at = nowhere books s.current past in
-    record {
-      answer = subst (λ o. Asked o c.args.call NoSuchBook) (sym at) refl;
-      after = ap (called (model s) c.args.call) (sym at);
     }

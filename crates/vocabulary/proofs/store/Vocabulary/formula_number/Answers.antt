@@ -1,22 +1,18 @@
-use Rattle.std.proofs.Common.{length, vec_items, ap, ◌∙◌, arith, rules, below_more}
+use Rattle.std.proofs.Common.{◌≡◌, vec_items, ◌∙◌, rules}
+use Rattle.std.proofs.lemmas.Iterator.{YieldsList-from_slice}
+use Rattle.std.proofs.lemmas.Iterator.Search.{position_from_yields_List}
 use Rattle.formulas.specs.Records.{same_record}
-use Rattle.vocabulary.proofs.Found.{first_default, found_at, found_none}
-use Rattle.vocabulary.proofs.Views.{stored}
+use Rattle.vocabulary.specs.declared.facts.Formula.{Formula}
 use Rattle.vocabulary.proofs.Entered.{found_record}
+use Rattle.vocabulary.proofs.Found.{position_found}
+use Rattle.vocabulary.proofs.Views.{stored}
 use Rattle.vocabulary.proofs.store.Vocabulary.formula_number.Goals as goal
-
-pub returns-then-same : goal.returns-then-same
-returns-then-same c =
-    let v = c.args.self.now in
-    found_at (same_record c.args.r) (vec_items v.records) first_default c.loop-i.i (search rules) c.loop-i.invariant (cc)
-    ∙ found_record c.args.r (vec_items v.records) (stored v).plain
 
 pub returns : goal.returns
 returns c =
-    let v = c.args.self.now in
-    found_none (same_record c.args.r) (vec_items v.records) first_default
-    (λ k h. c.loop-i.invariant k (omega (arith, ap length c.deref-s-items.ensures.value)))
-    ∙ found_record c.args.r (vec_items v.records) (stored v).plain
-
-pub loop-i-preserved : goal.loop-i-preserved
-loop-i-preserved c = below_more _ _ c.loop-i.invariant (cc)
+    let fs = vec_items c.args.self.now.formulas in
+    let same = λ (f : Formula). same_record c.args.r f.entered in
+    let m : c.map.result ≡ c.position.result = search rules in
+    m
+    ∙ (position_from_yields_List same _ _ c.position.result c.position.ensures.ran (YieldsList-from_slice fs cc) (λ x b q k. search rules)
+    ∙ (position_found same fs ∙ found_record c.args.r fs (stored c.args.self.now).plain))

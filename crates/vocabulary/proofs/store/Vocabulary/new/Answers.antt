@@ -8,12 +8,10 @@ invariant_of-result c =
     let ts = vec_items c.in_ok-types.types in
     let vs = vec_items c.in_ok-variables.variables in
     let ss = vec_items c.in_ok-set_names.set_names in
-    let rs = vec_items c.in_ok-records.records in
-    let fs = vec_items c.in_ok-facts.facts in
+    let fs = vec_items c.in_ok-formulas.formulas in
     let t = c.in_ok-types.ensures in
     let v = c.in_ok-variables.ensures in
     let s = c.in_ok-set_names.ensures in
-    let r = c.in_ok-records.ensures in
-    let f = c.in_ok-facts.ensures in
-    let e = begun ts vs ss rs t.items v.items s.items r.items in
-    record { few = omega arith; room = omega arith; stored = sure (begun_stored rs fs (view ts vs ss rs) e r.items f.items) }
+    let f = c.in_ok-formulas.ensures in
+    let e = begun ts vs ss fs t.items v.items s.items f.items in
+    record { few = omega arith; room = omega arith; stored = sure (begun_stored fs (view ts vs ss fs) e f.items) }
