@@ -4,4 +4,3 @@ pub mod Concluding
 pub mod Runs
 pub mod Law
 pub mod Example
-pub mod View

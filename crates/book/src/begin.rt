@@ -1,7 +1,6 @@
 ghost use Rattle.std.specs.Prelude.{◌≡◌, IfOk};
 ghost use Rattle.book.specs.Books.{new_book};
 ghost use Rattle.book.specs.Law.{KeepsTheLaw};
-ghost use Rattle.book.specs.View.{model};
 
 use crate::store::Book;
 use calculus::theory::Theory;
@@ -12,7 +11,7 @@ use vocabulary::store::Vocabulary;
 impl Book {
     // A new book for use with a theory, with all the memory that it will ever need. Every run of calls on it keeps the law.
     pub fn begin<T: Theory>(alloc: Global, number: u32, theory: &T) -> Result<Book, AllocError>
-        ensures new { IfOk result (λ b. model b ≡ new_book number) }
+        ensures new { IfOk result (λ b. b ≡ new_book number) }
         ensures law { KeepsTheLaw (T.meaning theory.now) }
     {
         let vocabulary = Vocabulary::new(alloc)?;

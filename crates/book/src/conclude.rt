@@ -3,7 +3,6 @@ ghost use Rattle.std.specs.Prelude.{◌≡◌, Result};
 ghost use Rattle.logic.specs.Meanings.{Sequent as Seq};
 ghost use Rattle.book.specs.Concluding.{Judges, conclude, verdict_of};
 ghost use Rattle.book.specs.Runs.{concludes, Comes, Does};
-ghost use Rattle.book.specs.View.{model};
 
 use crate::store::Book;
 use calculus::check;
@@ -23,7 +22,7 @@ impl Book {
         hypotheses: &[u16],
         citations: &[u16],
     ) -> Result<Sequent, DerivationRefusal>
-        ensures { Judges (T.meaning theory.now) (model self.now).vocabulary steps.now hypotheses.now citations.now (verdict_of result) }
+        ensures { Judges (T.meaning theory.now) self.now.vocabulary steps.now hypotheses.now citations.now (verdict_of result) }
     {
         if citations.len() > MAX_CITATIONS {
             return Err(DerivationRefusal::SIZE);
@@ -37,8 +36,8 @@ impl Book {
         verdict: Result<Sequent, DerivationRefusal>,
         citations: &[u16],
     ) -> Result<u16, Refusal>
-        ensures answer { result ≡ (conclude (model self.old) (verdict_of verdict) citations.now).answer }
-        ensures after { model self.new ≡ (conclude (model self.old) (verdict_of verdict) citations.now).after }
+        ensures answer { result ≡ (conclude self.old (verdict_of verdict) citations.now).answer }
+        ensures after { self.new ≡ (conclude self.old (verdict_of verdict) citations.now).after }
     {
         let root = verdict?;
         self.entries
@@ -53,8 +52,8 @@ impl Book {
         hypotheses: &[u16],
         citations: &[u16],
     ) -> Result<u16, Refusal>
-        ensures exact { (verdict : Result Seq DerivationRefusal) → Judges (T.meaning theory.now) (model self.old).vocabulary steps.now hypotheses.now citations.now verdict → Comes (conclude (model self.old) verdict citations.now) result (model self.new) }
-        ensures does { Does (T.meaning theory.now) (model self.old) (concludes steps.now hypotheses.now citations.now result) (model self.new) }
+        ensures exact { (verdict : Result Seq DerivationRefusal) → Judges (T.meaning theory.now) self.old.vocabulary steps.now hypotheses.now citations.now verdict → Comes (conclude self.old verdict citations.now) result self.new }
+        ensures does { Does (T.meaning theory.now) self.old (concludes steps.now hypotheses.now citations.now result) self.new }
     {
         let verdict = self.judge(theory, steps, hypotheses, citations);
         self.conclude_by(verdict, citations)

@@ -43,7 +43,7 @@ impl Hold {
 }
 
 impl RefusedHold {
-    // The same hold again.
+    // The same hold again. A method and no `From`: what becomes of a hold that was refused is to be read where it is decided.
     pub fn into_hold(self) -> Hold
         ensures { result ≡ hold_again self }
     {

@@ -2,7 +2,6 @@
 ghost use Rattle.std.specs.Prelude.{◌≡◌};
 ghost use Rattle.book.specs.Books.{hold, is_own, preview, lift, withdraw};
 ghost use Rattle.book.specs.Runs.{holds, previews, lifts, withdraws, DoesPlainly};
-ghost use Rattle.book.specs.View.{model};
 
 use crate::hold::{Hold, Refused};
 use crate::store::Book;
@@ -11,15 +10,15 @@ use states::refusal::Refusal;
 impl Book {
     // Whether the hold has this book's number.
     fn owns(&self, hold: &Hold) -> bool
-        ensures { result ≡ is_own (model self.now) hold.now }
+        ensures { result ≡ is_own self.now hold.now }
     {
         hold.book == self.number
     }
 
     pub fn hold(&mut self, e: u16) -> Result<Hold, Refusal>
-        ensures answer { result ≡ (hold (model self.old) e).answer }
-        ensures after { model self.new ≡ (hold (model self.old) e).after }
-        ensures does { DoesPlainly (model self.old) (holds e result) (model self.new) }
+        ensures answer { result ≡ (hold self.old e).answer }
+        ensures after { self.new ≡ (hold self.old e).after }
+        ensures does { DoesPlainly self.old (holds e result) self.new }
     {
         self.entries.hold(e)?;
         Ok(Hold {
@@ -30,9 +29,9 @@ impl Book {
 
     // What a withdrawal would answer; the hold comes back as it was.
     pub fn preview(&self, hold: Hold) -> (Result<(u16, u16), Refusal>, Hold)
-        ensures answer { result.0 ≡ preview (model self.now) hold }
+        ensures answer { result.0 ≡ preview self.now hold }
         ensures back { result.1 ≡ hold }
-        ensures does { DoesPlainly (model self.now) (previews hold result.0) (model self.now) }
+        ensures does { DoesPlainly self.now (previews hold result.0) self.now }
     {
         if !self.owns(&hold) {
             return (Err(Refusal::NotHeld), hold);
@@ -43,9 +42,9 @@ impl Book {
     // Lifting and withdrawing differ in the call on the entries. A closure for it would need its effect on them in a contract longer
     // than the two bodies.
     pub fn lift(&mut self, hold: Hold) -> Result<(), Refused>
-        ensures answer { result ≡ (lift (model self.old) hold).answer }
-        ensures after { model self.new ≡ (lift (model self.old) hold).after }
-        ensures does { DoesPlainly (model self.old) (lifts hold result) (model self.new) }
+        ensures answer { result ≡ (lift self.old hold).answer }
+        ensures after { self.new ≡ (lift self.old hold).after }
+        ensures does { DoesPlainly self.old (lifts hold result) self.new }
     {
         if !self.owns(&hold) {
             return hold.answer(Err(Refusal::NotHeld));
@@ -56,9 +55,9 @@ impl Book {
 
     // Answers how many standing conclusions fall, and the lowest of them, or 0.
     pub fn withdraw(&mut self, hold: Hold) -> Result<(u16, u16), Refused>
-        ensures answer { result ≡ (withdraw (model self.old) hold).answer }
-        ensures after { model self.new ≡ (withdraw (model self.old) hold).after }
-        ensures does { DoesPlainly (model self.old) (withdraws hold result) (model self.new) }
+        ensures answer { result ≡ (withdraw self.old hold).answer }
+        ensures after { self.new ≡ (withdraw self.old hold).after }
+        ensures does { DoesPlainly self.old (withdraws hold result) self.new }
     {
         if !self.owns(&hold) {
             return hold.answer(Err(Refusal::NotHeld));

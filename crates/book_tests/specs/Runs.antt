@@ -7,7 +7,6 @@ use Rattle.states.specs.declared.refusal.Refusal.{Refusal}
 use Rattle.book.specs.declared.store.Book.{Book}
 use Rattle.book.specs.Runs.{enters, gives, Run}
 use Rattle.book.specs.Law.{Trace, Law}
-use Rattle.book.specs.View.{model}
 
 -- two calls, with their answers
 abbrev pub two_calls : Call → Result ℕ VocabularyRefusal → ℕ → Result ℕ Refusal → Trace
@@ -15,4 +14,4 @@ two_calls c entered p given = gives p given ∷ enters c entered ∷ []
 
 -- the book is left by a run of the two calls, and keeps the law
 abbrev pub LeftByARun : Meaning → Call → ℕ → Book → Type 0
-LeftByARun m c p b = (entered : Result ℕ VocabularyRefusal) × (given : Result ℕ Refusal) × Run m 7 (two_calls c entered p given) (model b) × Law (two_calls c entered p given) (model b)
+LeftByARun m c p b = (entered : Result ℕ VocabularyRefusal) × (given : Result ℕ Refusal) × Run m 7 (two_calls c entered p given) b × Law (two_calls c entered p given) b

@@ -121,7 +121,8 @@ fn read_step(rest: Words) -> Option<Step>
     })
 }
 
-// The command that a first word and the words after it make.
+// The command that a first word and the words after it make. The words stand here and where a command is written: a function from a
+// command to its word would have as many arms again.
 fn read_command(word: &[u8], mut rest: Words) -> Option<Command>
     ensures { result ≡ command word.now (words rest.entry.text.now) }
 {

@@ -6,7 +6,7 @@ ghost use Rattle.commands.specs.Words.{words, after_spaces, number, only_number,
 
 use std::alloc::{AllocError, Global};
 
-// A text without the spaces that it begins with.
+// A text without the spaces that it begins with. The library's `trim_ascii_start` would take tabs for spaces.
 fn after_spaces(text: &[u8]) -> &[u8]
     ensures { result.now ≡ after_spaces text.now }
 {

@@ -1,4 +1,3 @@
 pub mod Scans
 pub mod Lists
 pub mod Concluding
-pub mod View

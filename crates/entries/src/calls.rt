@@ -4,7 +4,6 @@ ghost use Rattle.states.specs.declared.refusal.Refusal.TheVariants.{EntriesFull,
 ghost use Rattle.states.specs.Support.{stands_with, lose};
 ghost use Rattle.entries.specs.Lists.{give, hold, holds_entry, lift, falling, preview, withdraw, ask};
 ghost use Rattle.entries.specs.Concluding.{conclude};
-ghost use Rattle.entries.specs.View.{items};
 
 use crate::cited::Cited;
 use crate::store::Entries;
@@ -21,7 +20,7 @@ pub const MAX_CITATIONS: usize = 16;
 impl Entries {
     // No entries, with room for all that there can be.
     pub fn new(alloc: Global) -> Result<Entries, AllocError>
-        ensures { IfOk result (λ s. items s ≡ []) }
+        ensures { IfOk result (λ s. s ≡ []) }
     {
         let list = Vec::with_capacity(alloc, MAX_ENTRIES)?;
         Ok(Entries { list })
@@ -29,7 +28,7 @@ impl Entries {
 
     // The number of the next entry, if there is room for it.
     fn next_number(&self) -> Result<u16, Refusal>
-        ensures { result ≡ cond (nat_lt (length (items self.now)) 512) (Ok (length (items self.now))) (Err EntriesFull) }
+        ensures { result ≡ cond (nat_lt (length self.now) 512) (Ok (length self.now)) (Err EntriesFull) }
     {
         let e = self.list.len();
         if e >= MAX_ENTRIES {
@@ -39,8 +38,8 @@ impl Entries {
     }
 
     pub fn give(&mut self, p: u16) -> Result<u16, Refusal>
-        ensures answer { result ≡ (give (items self.old) p).answer }
-        ensures after { items self.new ≡ (give (items self.old) p).after }
+        ensures answer { result ≡ (give self.old p).answer }
+        ensures after { self.new ≡ (give self.old p).after }
     {
         let e = self.next_number()?;
         let mut support = [false; 512];
@@ -62,8 +61,8 @@ impl Entries {
         hypotheses: &[u16],
         citations: &[u16],
     ) -> Result<u16, Refusal>
-        ensures answer { result ≡ (conclude (items self.old) goal hypotheses.now citations.now).answer }
-        ensures after { items self.new ≡ (conclude (items self.old) goal hypotheses.now citations.now).after }
+        ensures answer { result ≡ (conclude self.old goal hypotheses.now citations.now).answer }
+        ensures after { self.new ≡ (conclude self.old goal hypotheses.now citations.now).after }
     {
         let Ok(citations) = ArrayVec::try_from(citations) else {
             return Err(DerivationRefusal::SIZE.into());
@@ -85,8 +84,8 @@ impl Entries {
     }
 
     pub fn hold(&mut self, e: u16) -> Result<(), Refusal>
-        ensures answer { result ≡ (hold (items self.old) e).answer }
-        ensures after { items self.new ≡ (hold (items self.old) e).after }
+        ensures answer { result ≡ (hold self.old e).answer }
+        ensures after { self.new ≡ (hold self.old e).after }
     {
         let x = self
             .list
@@ -104,7 +103,7 @@ impl Entries {
 
     // The place of the held rule e.
     fn held(&self, e: u16) -> Result<usize, Refusal>
-        ensures { result ≡ cond (holds_entry (items self.now) e) (Ok e) (Err NotHeld) }
+        ensures { result ≡ cond (holds_entry self.now e) (Ok e) (Err NotHeld) }
     {
         let r = usize::from(e);
         match self.list.get(r) {
@@ -114,8 +113,8 @@ impl Entries {
     }
 
     pub fn lift(&mut self, e: u16) -> Result<(), Refusal>
-        ensures answer { result ≡ (lift (items self.old) e).answer }
-        ensures after { items self.new ≡ (lift (items self.old) e).after }
+        ensures answer { result ≡ (lift self.old e).answer }
+        ensures after { self.new ≡ (lift self.old e).after }
     {
         let r = self.held(e)?;
         self.list[r].undergo(Event::Lift);
@@ -124,7 +123,7 @@ impl Entries {
 
     // How many standing conclusions fall with the rule r, and the lowest of them, or 0: the answer is a pair of numbers, which is printed.
     fn falling(&self, r: usize) -> (u16, u16)
-        ensures { result ≡ falling (items self.now) r }
+        ensures { result ≡ falling self.now r }
     {
         let count = self.list.iter().filter(|x| x.falls_with(r)).count();
         let lowest = self.list.iter().position(|x| x.falls_with(r)).unwrap_or(0);
@@ -133,15 +132,15 @@ impl Entries {
 
     // How many standing conclusions fall when the rule e is withdrawn, and the lowest of them, or 0.
     pub fn preview(&self, e: u16) -> Result<(u16, u16), Refusal>
-        ensures { result ≡ preview (items self.now) e }
+        ensures { result ≡ preview self.now e }
     {
         let r = self.held(e)?;
         Ok(self.falling(r))
     }
 
     pub fn withdraw(&mut self, e: u16) -> Result<(u16, u16), Refusal>
-        ensures answer { result ≡ (withdraw (items self.old) e).answer }
-        ensures after { items self.new ≡ (withdraw (items self.old) e).after }
+        ensures answer { result ≡ (withdraw self.old e).answer }
+        ensures after { self.new ≡ (withdraw self.old e).after }
     {
         let r = self.held(e)?;
         let fell = self.falling(r);
@@ -152,7 +151,7 @@ impl Entries {
 
     // Every entry loses the rule r.
     fn lose(&mut self, r: usize)
-        ensures { items self.new ≡ map (lose r) (items self.old) }
+        ensures { self.new ≡ map (lose r) self.old }
     {
         for x in self.list.iter_mut() {
             x.lose(r);
@@ -160,7 +159,7 @@ impl Entries {
     }
 
     pub fn ask(&self, e: u16) -> Result<EntryFacts, Refusal>
-        ensures { result ≡ ask (items self.now) e }
+        ensures { result ≡ ask self.now e }
     {
         let x = self.list.get(usize::from(e)).ok_or(Refusal::UnknownEntry)?;
         Ok(EntryFacts::from(x))
@@ -168,7 +167,7 @@ impl Entries {
 
     // The lowest entry that stands with the predicate p.
     pub fn first_standing(&self, p: u16) -> Option<u16>
-        ensures { result ≡ position (stands_with p) (items self.now) }
+        ensures { result ≡ position (stands_with p) self.now }
     {
         self.list
             .iter()

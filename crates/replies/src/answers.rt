@@ -1,6 +1,5 @@
 // What the current book is asked, and how its answers read.
 ghost use Rattle.std.specs.Prelude.{◌≡◌};
-ghost use Rattle.book.specs.View.{model};
 ghost use Rattle.replies.specs.Books.{entered, found, said, told_or_refused, Answers, after, Verdict};
 
 use crate::reply::{Reply, Thing};
@@ -14,8 +13,8 @@ use states::refusal::Refusal;
 
 // Makes a call on a book: what it gave, or why it was refused.
 fn ask(book: &mut Book, call: Call) -> Result<Reply, Notice>
-    ensures answer { Answers (model book.old) call (told_or_refused result) }
-    ensures after { model book.new ≡ after (model book.old) call }
+    ensures answer { Answers book.old call (told_or_refused result) }
+    ensures after { book.new ≡ after book.old call }
 {
     let reply = match call {
         Call::Carrier => Reply::Numbered(Thing::Type, book.enter(Entering::NewCarrier)?),
@@ -41,15 +40,16 @@ fn ask(book: &mut Book, call: Call) -> Result<Reply, Notice>
 
 // Makes a call on a book, and answers what it gave.
 pub fn answer(book: &mut Book, call: Call) -> Reply
-    ensures answer { Answers (model book.old) call result }
-    ensures after { model book.new ≡ after (model book.old) call }
+    ensures answer { Answers book.old call result }
+    ensures after { book.new ≡ after book.old call }
 {
     ask(book, call).unwrap_or_else(Reply::Refused)
 }
 
-// Judges a derivation in the book's vocabulary, by the three built theories joined.
+// Judges a derivation in the book's vocabulary, by the three built theories joined. A match here and below, as `map_or_else` would tell
+// the refusal first.
 pub fn judge(book: &Book, steps: &[Step], hypotheses: &[u16]) -> Reply
-    ensures { Verdict (model book.now) steps.now hypotheses.now result }
+    ensures { Verdict book.now steps.now hypotheses.now result }
 {
     match book.check(&standard_theory(), steps, hypotheses) {
         Ok(_) => Reply::Right,
@@ -57,7 +57,7 @@ pub fn judge(book: &Book, steps: &[Step], hypotheses: &[u16]) -> Reply
     }
 }
 
-// A rule or a conclusion has a number, or was refused. A match, as `map_or_else` would tell it backwards.
+// A rule or a conclusion has a number, or was refused.
 pub fn entered(answer: Result<u16, Refusal>) -> Reply
     ensures { result ≡ entered answer }
 {

@@ -2,7 +2,6 @@
 ghost use Rattle.std.specs.Prelude.{◌≡◌, Some, None};
 ghost use Rattle.states.specs.Refusals.{notice};
 ghost use Rattle.book.specs.Holds.{hold_again};
-ghost use Rattle.book.specs.View.{model};
 ghost use Rattle.replies.specs.Hands.{foretold, held, undergo};
 ghost use Rattle.commands.specs.declared.command.HoldCall.TheVariants.{Preview, Lift, Withdraw};
 
@@ -29,6 +28,7 @@ fn keep(refused: Refused, granted_by: usize) -> (Reply, Option<Held>)
     (Reply::Refused(refusal.into()), hand)
 }
 
+// A match, as `map_or_else` would tell the refusal first.
 fn foretold(answer: Result<(u16, u16), Refusal>) -> Reply
     ensures { result ≡ foretold answer }
 {
@@ -42,8 +42,8 @@ fn foretold(answer: Result<(u16, u16), Refusal>) -> Reply
 impl Held {
     // What a withdrawal would answer.
     fn preview(self, book: &Book) -> (Reply, Option<Held>)
-        ensures answer { result.0 ≡ (undergo Preview (model book.now) (Some self)).reply }
-        ensures hand { result.1 ≡ (undergo Preview (model book.now) (Some self)).hand }
+        ensures answer { result.0 ≡ (undergo Preview book.now (Some self)).reply }
+        ensures hand { result.1 ≡ (undergo Preview book.now (Some self)).hand }
     {
         let Held { hold, granted_by } = self;
         let (answer, hold) = book.preview(hold);
@@ -52,9 +52,9 @@ impl Held {
 
     // Lifts a hold. This and `withdraw` differ in the call and in what it is told as; a closure for both would say less.
     fn lift(self, book: &mut Book) -> (Reply, Option<Held>)
-        ensures answer { result.0 ≡ (undergo Lift (model book.old) (Some self)).reply }
-        ensures hand { result.1 ≡ (undergo Lift (model book.old) (Some self)).hand }
-        ensures book { model book.new ≡ (undergo Lift (model book.old) (Some self)).book }
+        ensures answer { result.0 ≡ (undergo Lift book.old (Some self)).reply }
+        ensures hand { result.1 ≡ (undergo Lift book.old (Some self)).hand }
+        ensures book { book.new ≡ (undergo Lift book.old (Some self)).book }
     {
         let Held { hold, granted_by } = self;
         match book.lift(hold) {
@@ -65,9 +65,9 @@ impl Held {
 
     // Withdraws the rule that is held.
     fn withdraw(self, book: &mut Book) -> (Reply, Option<Held>)
-        ensures answer { result.0 ≡ (undergo Withdraw (model book.old) (Some self)).reply }
-        ensures hand { result.1 ≡ (undergo Withdraw (model book.old) (Some self)).hand }
-        ensures book { model book.new ≡ (undergo Withdraw (model book.old) (Some self)).book }
+        ensures answer { result.0 ≡ (undergo Withdraw book.old (Some self)).reply }
+        ensures hand { result.1 ≡ (undergo Withdraw book.old (Some self)).hand }
+        ensures book { book.new ≡ (undergo Withdraw book.old (Some self)).book }
     {
         let Held { hold, granted_by } = self;
         match book.withdraw(hold) {
@@ -77,9 +77,9 @@ impl Held {
     }
 
     fn undergo(self, call: HoldCall, book: &mut Book) -> (Reply, Option<Held>)
-        ensures answer { result.0 ≡ (undergo call (model book.old) (Some self)).reply }
-        ensures hand { result.1 ≡ (undergo call (model book.old) (Some self)).hand }
-        ensures book { model book.new ≡ (undergo call (model book.old) (Some self)).book }
+        ensures answer { result.0 ≡ (undergo call book.old (Some self)).reply }
+        ensures hand { result.1 ≡ (undergo call book.old (Some self)).hand }
+        ensures book { book.new ≡ (undergo call book.old (Some self)).book }
     {
         // A call is data, which a script writes.
         match call {
@@ -103,9 +103,9 @@ fn put(place: &mut Option<Held>, hand: Option<Held>)
 
 // What a call does with the hold in this place, if there is one, on a book.
 pub fn undergo(place: &mut Option<Held>, call: HoldCall, book: &mut Book) -> Reply
-    ensures answer { result ≡ (undergo call (model book.old) place.old).reply }
-    ensures hand { place.new ≡ (undergo call (model book.old) place.old).hand }
-    ensures book { model book.new ≡ (undergo call (model book.old) place.old).book }
+    ensures answer { result ≡ (undergo call book.old place.old).reply }
+    ensures hand { place.new ≡ (undergo call book.old place.old).hand }
+    ensures book { book.new ≡ (undergo call book.old place.old).book }
 {
     let Some(held) = place.take() else {
         return Reply::NoSuchHold;

@@ -1,11 +1,9 @@
 -- The holds of a session: which books granted them, and how they are closed.
-use Rattle.std.specs.Prelude.{ℕ, ◌<◌, Bool, true, ◌&&◌, List, [], ◌∷◌, map, Some, None, Ok, Err, Option, Result, nat_lt, slice_set}
+use Rattle.std.specs.Prelude.{ℕ, ◌<◌, Bool, true, ◌&&◌, List, [], ◌∷◌, Some, None, Ok, Err, Option, Result, nat_lt, slice_set}
 use Rattle.std.specs.List.{slice_get}
 use Rattle.book.specs.declared.hold.Hold.{Hold}
 use Rattle.book.specs.declared.hold.Refused.{Refused}
-use Rattle.book.specs.declared.store.Book.{Book}
 use Rattle.book.specs.Books.{Model, lift}
-use Rattle.book.specs.View.{model}
 use Rattle.replies.specs.declared.hand.Held.{Held}
 use Rattle.replies.specs.declared.reply.Reply.{Reply}
 use Rattle.replies.specs.declared.reply.Reply.TheVariants as replies
@@ -27,10 +25,6 @@ granted_by n (Some x) = nat_lt x.granted_by n
 abbrev pub all_granted : ℕ → List (Option Held) → Bool
 all_granted n [] = true
 all_granted n (x ∷ xs) = granted_by n x && all_granted n xs
-
--- books in memory, as the definitions speak of them
-abbrev pub modelled : List Book → List Model
-modelled bs = map model bs
 
 -- what is printed when the hold with the number h is closed: it is lifted on the book that granted it, or else discarded
 abbrev pub closing : ℕ → Result (Unit {0}) Refused → Reply

@@ -1,5 +1,5 @@
 -- A script as it is run: which book is current, what each command does, and what it answers.
-use Rattle.std.specs.Prelude.{◌≡◌, ℕ, ◌+◌, ◌-◌, ◌^◌, ◌<◌, min, Bool, true, false, List, [], ◌∷◌, ◌++◌, length, Some, None, Ok, Err, vec_items, Option, Result, ◌≢◌, slice_set}
+use Rattle.std.specs.Prelude.{◌≡◌, ℕ, ◌+◌, ◌-◌, ◌^◌, ◌<◌, min, Bool, true, false, List, [], ◌∷◌, ◌++◌, length, Some, None, Ok, Err, Option, Result, ◌≢◌, slice_set}
 use Rattle.std.specs.Option.{option_map}
 use Rattle.std.specs.List.{slice_get}
 use Rattle.logic.specs.Formulas.{WellFormed}
@@ -20,11 +20,10 @@ use Rattle.commands.specs.declared.command.HoldCall.{HoldCall}
 use Rattle.replies.specs.declared.hand.Held.{Held}
 use Rattle.replies.specs.declared.reply.Reply.{Reply}
 use Rattle.replies.specs.declared.reply.Reply.TheVariants as replies
-use Rattle.script.specs.declared.store.Session as stored
 use Rattle.replies.specs.Books.{Answers, Verdict, after, entered}
 use Rattle.commands.specs.Commands.{Request, silent, not_understood, asks, append, draw, request, without_ending}
 use Rattle.replies.specs.Hands.{held, undergo}
-use Rattle.script.specs.Closing.{modelled, closed_reply, closed_books}
+use Rattle.script.specs.Closing.{closed_reply, closed_books}
 use Rattle.commands.specs.Words.{Bytes}
 
 -- the books, which of them is the current one, the derivation that is being written, the holds by their numbers,
@@ -37,19 +36,6 @@ pub record Session : Type 0 where
   pub holds : List (Option Held)
   pub lines : ℕ
   pub understood : Bool
-
--- what is kept of a session in memory, as the session
-abbrev pub model : stored.Session → Session
-model s =
-    record {
-      books = modelled (vec_items s.books);
-      current = s.current;
-      steps = vec_items s.steps;
-      hypotheses = vec_items s.hypotheses;
-      holds = vec_items s.holds;
-      lines = s.lines;
-      understood = s.understood;
-    }
 
 abbrev pub start : Session
 start = record { books = []; current = 0; steps = []; hypotheses = []; holds = []; lines = 0; understood = true }

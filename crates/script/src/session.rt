@@ -2,7 +2,7 @@
 ghost use Rattle.std.specs.Prelude.{◌≡◌, length, IfOk, OnErr, OnOk};
 ghost use Rattle.std.specs.List.{slice_get};
 ghost use Rattle.commands.specs.Commands.{without_ending, request};
-ghost use Rattle.script.specs.Sessions.{model, start, Replies, done, used, Passed, Tried, Concludes, held_reply, hold_call_reply, appended, closed, closed_at, next_line, Did, Follows};
+ghost use Rattle.script.specs.Sessions.{start, Replies, done, used, Passed, Tried, Concludes, held_reply, hold_call_reply, appended, closed, closed_at, next_line, Did, Follows};
 
 use crate::ending::close;
 use crate::store::Session;
@@ -18,7 +18,7 @@ use std::alloc::{AllocError, Global};
 
 impl Session {
     pub fn new(alloc: Global) -> Session
-        ensures { model result ≡ start }
+        ensures { result ≡ start }
     {
         Session {
             alloc,
@@ -34,14 +34,14 @@ impl Session {
 
     // Whether every line so far was understood.
     pub fn understood(&self) -> bool
-        ensures { result ≡ (model self.now).understood }
+        ensures { result ≡ self.now.understood }
     {
         self.understood
     }
 
     // How many holds were granted so far.
     pub fn holds(&self) -> usize
-        ensures { result ≡ length (model self.now).holds }
+        ensures { result ≡ length self.now.holds }
     {
         self.holds.len()
     }
@@ -49,8 +49,8 @@ impl Session {
     // Begins a book, and makes it the current one.
     fn begin(&mut self, number: u32) -> Result<Reply, AllocError>
         ensures answer { IfOk result (λ reply. reply ≡ Reply.Book number) }
-        ensures after { OnOk result (model self.new ≡ done (model self.old) (Command.Book number)) }
-        ensures refused { OnErr result (model self.new ≡ model self.old) }
+        ensures after { OnOk result (self.new ≡ done self.old (Command.Book number)) }
+        ensures refused { OnErr result (self.new ≡ self.old) }
     {
         let book = Book::begin(self.alloc, number, &standard_theory())?;
         let n = self.books.len();
@@ -61,8 +61,8 @@ impl Session {
 
     // Makes the k-th book the current one.
     fn choose(&mut self, k: u16) -> Reply
-        ensures answer { result ≡ used (model self.old) k }
-        ensures after { model self.new ≡ done (model self.old) (Command.Use k) }
+        ensures answer { result ≡ used self.old k }
+        ensures after { self.new ≡ done self.old (Command.Use k) }
     {
         let k = usize::from(k);
         let Some(book) = self.books.get(k) else {
@@ -74,8 +74,8 @@ impl Session {
 
     // Passes a call on to the current book. Each call looks it up: a helper that lends it would borrow the whole session.
     fn pass_on(&mut self, call: Call) -> Reply
-        ensures answer { Passed (model self.old) call result }
-        ensures after { model self.new ≡ done (model self.old) (Command.Call call) }
+        ensures answer { Passed self.old call result }
+        ensures after { self.new ≡ done self.old (Command.Call call) }
     {
         let Some(book) = self.books.get_mut(self.current) else {
             return Reply::NoSuchBook;
@@ -85,17 +85,18 @@ impl Session {
 
     // Adds a step to the derivation.
     fn add(&mut self, step: Step) -> Result<(), AllocError>
-        ensures after { OnOk result (model self.new ≡ done (model self.old) (Command.Step step)) }
-        ensures refused { OnErr result (model self.new ≡ model self.old) }
+        ensures after { OnOk result (self.new ≡ done self.old (Command.Step step)) }
+        ensures refused { OnErr result (self.new ≡ self.old) }
     {
         self.steps.push(step)?;
         Ok(())
     }
 
-    // Judges the derivation in the current book, and begins a new one.
+    // Judges the derivation in the current book, and begins a new one. The two lists are cleared here and in `conclude`: a method for it
+    // would only name two calls.
     fn check(&mut self) -> Reply
-        ensures answer { Tried (model self.old) result }
-        ensures after { model self.new ≡ done (model self.old) Command.Check }
+        ensures answer { Tried self.old result }
+        ensures after { self.new ≡ done self.old Command.Check }
     {
         let Some(book) = self.books.get(self.current) else {
             return Reply::NoSuchBook;
@@ -108,9 +109,9 @@ impl Session {
 
     // Holds a rule of the current book. There is room for the hold before it is asked for.
     fn hold(&mut self, e: u16) -> Result<Reply, AllocError>
-        ensures answer { IfOk result (λ reply. reply ≡ held_reply (model self.old) e) }
-        ensures after { OnOk result (model self.new ≡ done (model self.old) (Command.Hold e)) }
-        ensures refused { OnErr result (model self.new ≡ model self.old) }
+        ensures answer { IfOk result (λ reply. reply ≡ held_reply self.old e) }
+        ensures after { OnOk result (self.new ≡ done self.old (Command.Hold e)) }
+        ensures refused { OnErr result (self.new ≡ self.old) }
     {
         self.holds.reserve(1)?;
         let Some(book) = self.books.get_mut(self.current) else {
@@ -129,8 +130,8 @@ impl Session {
 
     // Makes a call on the current book with a hold in hand.
     fn call_with_hold(&mut self, call: HoldCall, h: usize) -> Reply
-        ensures answer { result ≡ hold_call_reply (model self.old) call h }
-        ensures after { model self.new ≡ done (model self.old) (Command.HoldCall call h) }
+        ensures answer { result ≡ hold_call_reply self.old call h }
+        ensures after { self.new ≡ done self.old (Command.HoldCall call h) }
     {
         let Some(book) = self.books.get_mut(self.current) else {
             return Reply::NoSuchBook;
@@ -143,15 +144,15 @@ impl Session {
 
     // Appends numbers to the hypotheses.
     fn append(&mut self, numbers: &[u16]) -> Result<(), AllocError>
-        ensures after { OnOk result (model self.new ≡ appended (model self.old) numbers.now) }
-        ensures refused { OnErr result (model self.new ≡ model self.old) }
+        ensures after { OnOk result (self.new ≡ appended self.old numbers.now) }
+        ensures refused { OnErr result (self.new ≡ self.old) }
     {
         self.hypotheses.extend_from_slice(numbers)
     }
 
     // Hands the derivation over to the current book with citations, and begins a new one.
     fn conclude(&mut self, citations: &[u16]) -> Reply
-        ensures { Concludes (model self.old) citations.now (slice_get (model self.old).books (model self.old).current) result (model self.new) }
+        ensures { Concludes self.old citations.now (slice_get self.old.books self.old.current) result self.new }
     {
         let Some(book) = self.books.get_mut(self.current) else {
             return Reply::NoSuchBook;
@@ -166,10 +167,11 @@ impl Session {
 
     // Only a new book, a new step and a new hold can want for memory, and nothing is changed then.
     pub fn run(&mut self, command: Command) -> Result<Option<Reply>, AllocError>
-        ensures answer { IfOk result (λ reply. Replies (model self.old) command reply) }
-        ensures after { OnOk result (model self.new ≡ done (model self.old) command) }
-        ensures refused { OnErr result (model self.new ≡ model self.old) }
+        ensures answer { IfOk result (λ reply. Replies self.old command reply) }
+        ensures after { OnOk result (self.new ≡ done self.old command) }
+        ensures refused { OnErr result (self.new ≡ self.old) }
     {
+        // A command is data, which a script writes.
         let reply = match command {
             Command::Book(number) => self.begin(number)?,
             Command::Use(k) => self.choose(k),
@@ -186,15 +188,15 @@ impl Session {
     }
 
     fn next_line(&self) -> u64
-        ensures { result ≡ next_line (model self.now) }
+        ensures { result ≡ next_line self.now }
     {
         self.lines.saturating_add(1)
     }
 
     // Does what a line asks, its ending left out. The line is not counted yet.
     fn obey(&mut self, line: &[u8]) -> Result<Option<Reply>, AllocError>
-        ensures does { IfOk result (λ reply. Did (model self.old) (request line.now) reply (model self.new)) }
-        ensures refused { OnErr result (model self.new ≡ model self.old) }
+        ensures does { IfOk result (λ reply. Did self.old (request line.now) reply self.new) }
+        ensures refused { OnErr result (self.new ≡ self.old) }
     {
         match read_line(line) {
             Line::Silent => Ok(None),
@@ -217,8 +219,8 @@ impl Session {
 
     // Runs the next line of a script, which is given with its ending if it has one, and answers what is to be printed.
     pub fn line(&mut self, text: &[u8]) -> Result<Option<Reply>, AllocError>
-        ensures does { IfOk result (λ reply. Follows (model self.old) (request (without_ending text.now)) reply (model self.new)) }
-        ensures refused { OnErr result (model self.new ≡ model self.old) }
+        ensures does { IfOk result (λ reply. Follows self.old (request (without_ending text.now)) reply self.new) }
+        ensures refused { OnErr result (self.new ≡ self.old) }
     {
         let number = self.next_line();
         let reply = self.obey(without_ending(text))?;
@@ -228,8 +230,8 @@ impl Session {
 
     // Ends the hold with this number, if it is still in hand: lifted on the book that granted it, or else discarded.
     pub fn close_hold(&mut self, h: usize) -> Option<Reply>
-        ensures answer { result ≡ closed (model self.old) h }
-        ensures after { model self.new ≡ closed_at (model self.old) h }
+        ensures answer { result ≡ closed self.old h }
+        ensures after { self.new ≡ closed_at self.old h }
     {
         let held = self.holds.get_mut(h)?.take();
         close(held, &mut self.books, h)

@@ -1,5 +1,4 @@
 use Rattle.book.specs.Runs.{Run}
-use Rattle.book.specs.View.{model}
 use Rattle.book_tests.specs.Runs.{two_calls}
 use Rattle.book_tests.proofs.caller.enter_and_give.Goals as goal
 
@@ -8,5 +7,5 @@ returns g c =
     let m = g.T.Theory.meaning c.args.theory.now in
     let begun = c.in_ok-b.ensures in
     let calls = two_calls c.args.call c.enter.result c.args.p c.give.result in
-    let run : Run m 7 calls (model c.give.new.self) = (model c.enter.new.self, (model c.in_ok-b.b, begun.new, c.enter.ensures.does), c.give.ensures.does) in
-    (c.enter.result, c.give.result, run, begun.law 7 calls (model c.give.new.self) run)
+    let run : Run m 7 calls c.give.new.self = (c.enter.new.self, (c.in_ok-b.b, begun.new, c.enter.ensures.does), c.give.ensures.does) in
+    (c.enter.result, c.give.result, run, begun.law 7 calls c.give.new.self run)

@@ -1,7 +1,5 @@
 use Rattle.std.proofs.Common.{◌<◌, length, Ok, Err, vec_items, sym, refl, ◌∙◌, rules}
 use Rattle.book.specs.Books.{lift}
-use Rattle.book.specs.View.{model}
-use Rattle.script.specs.Closing.{modelled}
 use Rattle.script.proofs.Closing.{closes, closed_so}
 use Rattle.script.proofs.Shelved.{here, put}
 use Rattle.script.proofs.ending.close.Goals as goal
@@ -15,8 +13,8 @@ returns-in-Ok c =
     let within : k < length bs = search rules in
     let at = here bs k b within c.index_mut.ensures.value in
     record {
-      answer = closes (modelled bs) k (model b) x c.args.held c.args.h (Ok c.in-Ok.field-0) c.in_ok-hold.was at (sym c.in-Ok.is ∙ c.lift.ensures.answer);
-      after = put bs k c.lift.new.self (lift (model b) x).after c.lift.ensures.after ∙ closed_so (modelled bs) k (model b) x c.args.held c.in_ok-hold.was at;
+      answer = closes bs k b x c.args.held c.args.h (Ok c.in-Ok.field-0) c.in_ok-hold.was at (sym c.in-Ok.is ∙ c.lift.ensures.answer);
+      after = put bs k c.lift.new.self (lift b x).after c.lift.ensures.after ∙ closed_so bs k b x c.args.held c.in_ok-hold.was at;
       len = refl;
     }
 
@@ -29,7 +27,7 @@ returns-in-Err c =
     let within : k < length bs = search rules in
     let at = here bs k b within c.index_mut.ensures.value in
     record {
-      answer = closes (modelled bs) k (model b) x c.args.held c.args.h (Err c.in-Err.field-0) c.in_ok-hold.was at (sym c.in-Err.is ∙ c.lift.ensures.answer);
-      after = put bs k c.lift.new.self (lift (model b) x).after c.lift.ensures.after ∙ closed_so (modelled bs) k (model b) x c.args.held c.in_ok-hold.was at;
+      answer = closes bs k b x c.args.held c.args.h (Err c.in-Err.field-0) c.in_ok-hold.was at (sym c.in-Err.is ∙ c.lift.ensures.answer);
+      after = put bs k c.lift.new.self (lift b x).after c.lift.ensures.after ∙ closed_so bs k b x c.args.held c.in_ok-hold.was at;
       len = refl;
     }

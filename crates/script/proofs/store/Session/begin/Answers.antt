@@ -4,6 +4,6 @@ use Rattle.script.proofs.store.Session.begin.Goals as goal
 
 pub invariant_of-self-2 : goal.invariant_of-self-2
 invariant_of-self-2 c =
-    let s = c.args.self.now in
+    let s = c.self.inside in
     let more : vec_len s.books ≤ vec_len c.push.new.self = omega (arith, c.in_ok-push.ensures.len) in
-    record { granted = begun_granted (vec_len s.books) (vec_len c.push.new.self) (vec_items s.holds) more s.granted }
+    begun_granted (vec_len s.books) (vec_len c.push.new.self) (vec_items s.holds) more c.self.invariant
