@@ -1,6 +1,6 @@
 -- A book as lists, and what each call answers and makes of it.
-use Rattle.std.specs.Prelude.{ℕ, Bool, cond, List, [], Ok, Err, Option, Result, position, ◌==◌}
-use Rattle.logic.specs.Formulas.{Vocabulary}
+use Rattle.std.specs.Prelude.{ℕ, ◌≤◌, Bool, cond, List, [], length, Ok, Err, Option, Result, position, ◌==◌}
+use Rattle.logic.specs.Formulas.{Vocabulary, WellFormed, Limited}
 use Rattle.logic.specs.Growing.{empty_vocabulary}
 use Rattle.logic.specs.Deciding.{is_predicate}
 use Rattle.formulas.specs.declared.calls.Call.{Call}
@@ -21,6 +21,12 @@ pub record Model : Type 0 where
   pub number : ℕ
   pub vocabulary : Vocabulary
   pub entries : List Entry
+
+-- what every book keeps to: its vocabulary is well formed and within its limits, and it has at most 512 entries
+pub record WellFormedBook (b : Model) : Type 0 where
+  pub formed : WellFormed b.vocabulary
+  pub limited : Limited b.vocabulary
+  pub few : length b.entries ≤ 512
 
 abbrev pub new_book : ℕ → Model
 new_book number = record { number = number; vocabulary = empty_vocabulary; entries = [] }

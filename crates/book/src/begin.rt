@@ -1,9 +1,10 @@
-ghost use Rattle.std.specs.Prelude.{◌≡◌, IfOk};
-ghost use Rattle.book.specs.Books.{new_book};
+ghost use Rattle.std.specs.Prelude.{◌≡◌, true, IfOk};
+ghost use Rattle.book.specs.Books.{new_book, WellFormedBook};
 ghost use Rattle.book.specs.Law.{KeepsTheLaw};
 
 use crate::store::Book;
 use calculus::theory::Theory;
+use entries::calls::MAX_ENTRIES;
 use entries::store::Entries;
 use std::alloc::{AllocError, Global};
 use vocabulary::store::Vocabulary;
@@ -21,5 +22,14 @@ impl Book {
             vocabulary,
             entries,
         })
+    }
+    // Every book is well formed and within its limits, so the answer is always yes; the other clause is what a caller gets.
+    pub fn is_well_formed(&self) -> bool
+        ensures answer { result ≡ true }
+        ensures formed { WellFormedBook self.now }
+    {
+        let vocabulary = self.vocabulary.is_well_formed();
+        let entries = self.entries.len() <= MAX_ENTRIES;
+        vocabulary && entries
     }
 }

@@ -95,7 +95,9 @@ impl Derivation<'_> {
     {
         let step = self.steps[i];
         let sequent = self.sequent_of(&step)?;
-        let n = theory.premises(step.rule).ok_or(Fault::UnknownRule)?;
+        let n = theory
+            .premises_if_known(step.rule)
+            .ok_or(Fault::UnknownRule)?;
         if !are_earlier(n, i, &step) {
             return Err(Fault::LatePremise);
         }

@@ -13,9 +13,19 @@ use vocabulary::store::Vocabulary;
 pub trait Theory {
     ghost meaning: { Self → Meaning };
 
+    fn knows(&self, rule: u16) -> bool
+        ensures { result ≡ (meaning self.now).known rule };
+
+    // How many premises a rule takes; 0 where the theory does not know it, by the law `regular`.
+    fn premises(&self, rule: u16) -> u8
+        ensures { result ≡ (meaning self.now).arity rule };
+
     // How many premises a rule takes, if the theory knows it.
-    fn premises(&self, rule: u16) -> Option<u8>
-        ensures { result ≡ premises (meaning self.now) rule };
+    fn premises_if_known(&self, rule: u16) -> Option<u8>
+        ensures { result ≡ premises (meaning self.now) rule }
+    {
+        self.knows(rule).then_some(self.premises(rule))
+    }
 
     fn is_instance(
         &self,
@@ -42,8 +52,16 @@ impl<F: Theory, S: Theory> Theory for Joined<F, S> {
 
     ghost regular = { λ t. joined_regular (F.meaning t.0) (S.meaning t.1) (F.regular t.0) (S.regular t.1) };
 
-    fn premises(&self, rule: u16) -> Option<u8> {
-        self.0.premises(rule).or(self.1.premises(rule))
+    fn knows(&self, rule: u16) -> bool {
+        self.0.knows(rule) || self.1.knows(rule)
+    }
+
+    fn premises(&self, rule: u16) -> u8 {
+        if self.0.knows(rule) {
+            self.0.premises(rule)
+        } else {
+            self.1.premises(rule)
+        }
     }
 
     fn is_instance(
@@ -53,7 +71,7 @@ impl<F: Theory, S: Theory> Theory for Joined<F, S> {
         sequent: &Sequent,
         premises: &[Sequent],
     ) -> bool {
-        if self.0.premises(step.rule).is_some() {
+        if self.0.knows(step.rule) {
             self.0.is_instance(v, step, sequent, premises)
         } else {
             self.1.is_instance(v, step, sequent, premises)

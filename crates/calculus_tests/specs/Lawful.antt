@@ -1,5 +1,5 @@
 -- The rule for ⊤ is sound.
-use Rattle.std.specs.Prelude.{◌≡◌, ℕ, ◌&&◌, T, length, ◌==◌, refl}
+use Rattle.std.specs.Prelude.{◌≡◌, ℕ, Bool, ◌&&◌, T, length, Decides, ◌==◌, refl}
 use Rattle.std.proofs.Common.{sym, ◌∙◌, ap, subst, arith}
 use Rattle.logic.specs.Formulas.{Vocabulary, node, truth}
 use Rattle.logic.specs.Meanings.{holds, refuted, true_in}
@@ -33,3 +33,7 @@ truth_regular = record {
       let known = and_left (x.rule == 100) (length ps == 0) (and_left (x.rule == 100 && length ps == 0) (has_record v s.goal (entry True 0 0)) t) in
       false≢true (sym e ∙ is_true (x.rule == 100) known);
 }
+
+-- a test that is answered decides what it tests
+pub decides_test : (b t : Bool) → b ≡ t → Decides b (T t)
+decides_test b t e = (λ h. subst T (sym h ∙ e) tt, λ h. e ∙ is_true t h)

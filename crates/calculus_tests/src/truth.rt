@@ -18,8 +18,12 @@ impl Theory for TruthRule {
 
     ghost regular = { λ t. truth_regular };
 
-    fn premises(&self, rule: u16) -> Option<u8> {
-        (rule == 100).then_some(0)
+    fn knows(&self, rule: u16) -> bool {
+        rule == 100
+    }
+
+    fn premises(&self, _rule: u16) -> u8 {
+        0
     }
 
     fn is_instance(

@@ -1,5 +1,5 @@
 -- Concluding from cited entries, once the derivation has passed.
-use Rattle.std.specs.Prelude.{ℕ, ◌+◌, ◌<◌, Bool, cond, not, ◌&&◌, List, [], ◌∷◌, map, length, Some, None, Option, All, position, nat_le, nat_lt}
+use Rattle.std.specs.Prelude.{ℕ, ◌+◌, ◌-◌, ◌<◌, Bool, cond, not, ◌&&◌, List, [], ◌∷◌, ◌++◌, map, length, replicate, Some, None, Option, All, position, nat_le, nat_lt}
 use Rattle.std.specs.List.{list_any, enumerate_from, range_with_len}
 use Rattle.calculus.specs.declared.refusal.Fault.TheVariants.{Size}
 use Rattle.states.specs.declared.entry.Entry.{Entry}
@@ -45,10 +45,13 @@ joined es cites r = list_any (λ c. in_support r (at es c)) cites
 unfoldable pub row : (ℕ → Bool) → List Bool
 row set = map set (range_with_len 0 512)
 
+abbrev pub padded : List ℕ → List ℕ
+padded cites = cites ++ replicate (16 - length cites) 0
+
 -- the support of a conclusion joins the supports of the entries that it cites
 abbrev pub conclusion : List Entry → List ℕ → ℕ → Entry
 conclusion es cites goal =
-    record { origin = Concluded; predicate = goal; state = Standing; citations = record { items = cites }; support = row (joined es cites) }
+    record { origin = Concluded; predicate = goal; state = Standing; count = length cites; citations = padded cites; support = row (joined es cites) }
 
 abbrev pub unless : Option ℕ → (ℕ → Refusal) → List Entry → Change ℕ → Change ℕ
 unless None why es otherwise = otherwise

@@ -25,9 +25,12 @@ grant x es = record { answer = Ok x; after = es }
 abbrev pub no_rules : List Bool
 no_rules = replicate 512 false
 
+abbrev pub no_citations : List ℕ
+no_citations = replicate 16 0
+
 -- what a read past the end gives: 0, first variants, empty arrays
 abbrev pub no_entry : Entry
-no_entry = record { origin = Given; predicate = 0; state = Standing; citations = record { items = [] }; support = [] }
+no_entry = record { origin = Given; predicate = 0; state = Standing; count = 0; citations = []; support = [] }
 
 abbrev pub at : List Entry → ℕ → Entry
 at es e = slice_index_or es e no_entry
@@ -38,7 +41,7 @@ add es x = cond (nat_lt (length es) 512) (grant (length es) (es ++ x ∷ [])) (r
 
 -- the support of a given rule is itself
 abbrev pub given_entry : ℕ → ℕ → Entry
-given_entry e p = record { origin = Given; predicate = p; state = Standing; citations = record { items = [] }; support = slice_set no_rules e true }
+given_entry e p = record { origin = Given; predicate = p; state = Standing; count = 0; citations = no_citations; support = slice_set no_rules e true }
 
 abbrev pub give : List Entry → ℕ → Change ℕ
 give es p = add es (given_entry (length es) p)

@@ -1,31 +1,29 @@
 // What is asked of the citations of a conclusion, and the conclusion.
-ghost use Rattle.std.specs.Prelude.{◌≡◌, ℕ, ◌<◌, None, Some, length, map, position, IfOk, IfErr};
+ghost use Rattle.std.specs.Prelude.{◌≡◌, ℕ, ◌<◌, ◌≤◌, None, Some, length, map, position, IfOk, IfErr};
 ghost use Rattle.states.specs.declared.refusal.Refusal.TheVariants.{UnknownCitation};
 ghost use Rattle.entries.specs.Scans.{mem, subset};
 ghost use Rattle.entries.specs.Lists.{at};
-ghost use Rattle.entries.specs.Concluding.{disorder, Known, does_not_stand, support_held, predicates, same_set, joined, row, conclusion};
+ghost use Rattle.entries.specs.Concluding.{disorder, Known, does_not_stand, support_held, predicates, same_set, joined, row, padded, conclusion};
 
-use arrayvec::ArrayVec;
 use states::entry::{Entry, Origin, State};
 use states::refusal::Refusal;
 use std::array;
 
-// Entries, and citations in order: each is of an entry.
-#[derive(Drop)]
+// Entries, and at most 16 citations in order: each is of an entry.
+#[derive(Clone, Copy)]
 pub(crate) struct Cited<'a> {
     entries: &'a [Entry],
-    citations: ArrayVec<u16, 16>,
-    ghost known: { Known entries.now citations.items },
+    citations: &'a [u16],
+    ghost few: { length citations.now ≤ 16 },
+    ghost known: { Known entries.now citations.now },
 }
 
 impl<'a> Cited<'a> {
     // The citations, if they are in order, or the first that is no entry or not above the one before it.
-    pub(crate) fn new(
-        entries: &'a [Entry],
-        citations: ArrayVec<u16, 16>,
-    ) -> Result<Cited<'a>, Refusal>
-        ensures accepted { IfOk result (λ c. (c.entries.now ≡ entries.now) × (c.citations ≡ citations) × (disorder (length entries.now) 0 0 citations.items ≡ None)) }
-        ensures refused { IfErr result (λ why. (place : ℕ) × (why ≡ UnknownCitation place) × (disorder (length entries.now) 0 0 citations.items ≡ Some place)) }
+    pub(crate) fn new(entries: &'a [Entry], citations: &'a [u16]) -> Result<Cited<'a>, Refusal>
+        requires { length citations.now ≤ 16 }
+        ensures accepted { IfOk result (λ c. (c.entries.now ≡ entries.now) × (c.citations.now ≡ citations.now) × (disorder (length entries.now) 0 0 citations.now ≡ None)) }
+        ensures refused { IfErr result (λ why. (place : ℕ) × (why ≡ UnknownCitation place) × (disorder (length entries.now) 0 0 citations.now ≡ Some place)) }
     {
         // Each citation is compared with the one before it and with the count at once; a chain would need both in its state.
         let mut low = 0;
@@ -49,7 +47,7 @@ impl<'a> Cited<'a> {
     // The first citation that does not stand. This and `first_held` are one chain each: a helper would take the test as a closure and
     // say of it in its contract what the two say plainly.
     pub(crate) fn first_not_standing(&self) -> Option<u16>
-        ensures { result ≡ position (does_not_stand self.now.entries.now) self.now.citations.items }
+        ensures { result ≡ position (does_not_stand self.now.entries.now) self.now.citations.now }
     {
         self.citations
             .iter()
@@ -71,7 +69,7 @@ impl<'a> Cited<'a> {
 
     // The first citation with a held rule in its support.
     pub(crate) fn first_held(&self) -> Option<u16>
-        ensures { result ≡ position (support_held self.now.entries.now) self.now.citations.items }
+        ensures { result ≡ position (support_held self.now.entries.now) self.now.citations.now }
     {
         self.citations
             .iter()
@@ -81,7 +79,7 @@ impl<'a> Cited<'a> {
 
     // Whether an entry with the predicate p is cited.
     fn has_predicate(&self, p: u16) -> bool
-        ensures { result ≡ mem p (predicates self.now.entries.now self.now.citations.items) }
+        ensures { result ≡ mem p (predicates self.now.entries.now self.now.citations.now) }
     {
         self.citations
             .iter()
@@ -91,7 +89,7 @@ impl<'a> Cited<'a> {
 
     // Whether the predicate of each citation is among the hypotheses.
     fn are_assumed(&self, hypotheses: &[u16]) -> bool
-        ensures { result ≡ subset (predicates self.now.entries.now self.now.citations.items) hypotheses.now }
+        ensures { result ≡ subset (predicates self.now.entries.now self.now.citations.now) hypotheses.now }
     {
         self.citations
             .iter()
@@ -101,42 +99,51 @@ impl<'a> Cited<'a> {
 
     // Whether each hypothesis is the predicate of a citation.
     fn are_cited(&self, hypotheses: &[u16]) -> bool
-        ensures { result ≡ subset hypotheses.now (predicates self.now.entries.now self.now.citations.items) }
+        ensures { result ≡ subset hypotheses.now (predicates self.now.entries.now self.now.citations.now) }
     {
         hypotheses.iter().all(|p| self.has_predicate(*p))
     }
 
     // Whether the predicates cited are the hypotheses, as sets.
     pub(crate) fn is_same_set(&self, hypotheses: &[u16]) -> bool
-        ensures { result ≡ same_set (predicates self.now.entries.now self.now.citations.items) hypotheses.now }
+        ensures { result ≡ same_set (predicates self.now.entries.now self.now.citations.now) hypotheses.now }
     {
         self.are_assumed(hypotheses) && self.are_cited(hypotheses)
     }
 
     // Whether the rule r is in the support of an entry cited.
     fn rests_on(&self, r: usize) -> bool
-        ensures { result ≡ joined self.now.entries.now self.now.citations.items r }
+        ensures { result ≡ joined self.now.entries.now self.now.citations.now r }
     {
         self.citations.iter().any(|c| self.entry(*c).rests_on(r))
     }
 
     // The joined supports of the entries cited.
     fn support(&self) -> [bool; 512]
-        ensures { result ≡ row (joined self.now.entries.now self.now.citations.items) }
+        ensures { result ≡ row (joined self.now.entries.now self.now.citations.now) }
     {
         array::from_fn(|r| self.rests_on(r))
     }
 
-    pub(crate) fn conclusion(self, goal: u16) -> Entry
-        ensures { result ≡ conclusion self.entry.entries.now self.entry.citations.items goal }
+    // The citations, with 0 in the places left.
+    fn padded(&self) -> [u16; 16]
+        ensures { result ≡ padded self.now.citations.now }
     {
-        let support = self.support();
+        let mut list = [0; 16];
+        list[..self.citations.len()].copy_from_slice(self.citations);
+        list
+    }
+
+    pub(crate) fn conclusion(&self, goal: u16) -> Entry
+        ensures { result ≡ conclusion self.now.entries.now self.now.citations.now goal }
+    {
         Entry {
             origin: Origin::Concluded,
             predicate: goal,
             state: State::Standing,
-            citations: self.citations,
-            support,
+            count: self.citations.len() as u16,
+            citations: self.padded(),
+            support: self.support(),
         }
     }
 }

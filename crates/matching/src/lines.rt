@@ -208,7 +208,7 @@ impl Candidate<'_> {
 
     // For the rules that substitute an expression for a variable: whether the formulas named are the substitutions. A pair, since
     // the definition of the line takes both answers, and no Option of it: a line that is not asked of them reads neither.
-    fn substitutions(&self) -> (bool, bool)
+    pub fn substitutions(&self) -> (bool, bool)
         ensures { Substitutions (model self.now.vocabulary.now) self.now.rule self.now.step.now self.now.goal self.now.first result.0 result.1 }
     {
         let v = self.vocabulary;
@@ -244,7 +244,7 @@ impl Candidate<'_> {
     }
 
     // The line of the table that the step has, by the answers of `substitutions` about its first premise and its goal.
-    fn line_by(&self, w: bool, z: bool) -> Option<Line>
+    pub fn line_by(&self, w: bool, z: bool) -> Option<Line>
         ensures { result ≡ line_for self.now self.now.rule w z }
     {
         let (v, g, p, q) = (self.vocabulary, self.goal, self.first, self.second);

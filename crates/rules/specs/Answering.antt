@@ -1,7 +1,7 @@
 -- The answers of the code decide whether a step is an instance of a rule.
-use Rattle.std.specs.Prelude.{◌≡◌, ℕ, Bool, true, false, ◌&&◌, T, List, [], ◌∷◌, length, Some, None, Option, Decides, if◌then◌else◌, ◌≢◌, refl}
+use Rattle.std.specs.Prelude.{◌≡◌, ℕ, Bool, true, false, ◌&&◌, T, List, [], ◌∷◌, length, Some, None, Option, Decides, if◌then◌else◌, ◌==◌, ◌≢◌, refl}
 use Rattle.std.proofs.Common.{sym, ◌∙◌, ap, subst, subst₂}
-use Rattle.std.proofs.lemmas.Bool.Decides.{Decides-at, Decides-like}
+use Rattle.std.proofs.lemmas.Bool.Decides.{Decides-and, Decides-at, Decides-eqb, Decides-like}
 use Rattle.std.specs.List.{list_any}
 use Rattle.std.proofs.lemmas.List.{length-map}
 use Rattle.logic.specs.Formulas.{Vocabulary, WellFormed}
@@ -34,14 +34,14 @@ minus_none : (ns : List ℕ) → minus ns [] ≡ ns
 minus_none [] = refl
 minus_none (n ∷ ns) = ap (λ ms. n ∷ ms) (minus_none ns)
 
-pub mon_answer : (v : Vocabulary) (a b c : ℕ) (s : Seq) (xs : List Sequent) (p : Sequent) (t : Bool) → xs ≡ p ∷ [] →
-    s.goal ≡ (seq p).goal → t ≡ covered Nothing (seq p).hypotheses s.hypotheses → Decides t (Instance v Mon a b c (seqs xs) s)
-mon_answer v a b c s xs p t e eg et =
-    subst (λ (zs : List Sequent). Decides t (Instance v Mon a b c (seqs zs) s)) (sym e)
-    (Decides-like t
-    (λ d. (mon_by_subset v a b c (seq p) s).1 (eg, subst (λ (A : List ℕ). Subset A s.hypotheses) (minus_none (seq p).hypotheses) d))
-    (λ i. subst (λ (A : List ℕ). Subset A s.hypotheses) (sym (minus_none (seq p).hypotheses)) ((mon_by_subset v a b c (seq p) s).0 i).1)
-    (Decides-at t (covered Nothing (seq p).hypotheses s.hypotheses) et (covered_is Nothing (seq p).hypotheses s.hypotheses)))
+pub mon_answer : (v : Vocabulary) (a b c : ℕ) (s : Seq) (xs : List Sequent) (p : Sequent) (g k : ℕ) (ns ms : List ℕ) (t : Bool) → xs ≡ p ∷ [] →
+    g ≡ s.goal → k ≡ (seq p).goal → ns ≡ (seq p).hypotheses → ms ≡ s.hypotheses → t ≡ covered Nothing ns ms → Decides (g == k && t) (Instance v Mon a b c (seqs xs) s)
+mon_answer v a b c s xs p g k ns ms t e eg ek en em et =
+    subst (λ (zs : List Sequent). Decides (g == k && t) (Instance v Mon a b c (seqs zs) s)) (sym e)
+    (Decides-like (g == k && t)
+    (λ d. (mon_by_subset v a b c (seq p) s).1 (sym eg ∙ d.0 ∙ ek, subst₂ (λ (A B : List ℕ). Subset A B) (minus_none ns ∙ en) em d.1))
+    (λ i. let d = (mon_by_subset v a b c (seq p) s).0 i in (eg ∙ d.0 ∙ sym ek, subst₂ (λ (A B : List ℕ). Subset A B) (sym (minus_none ns ∙ en)) (sym em) d.1))
+    (Decides-and (g == k) t (Decides-eqb g k) (Decides-at t (covered Nothing ns ms) et (covered_is Nothing ns ms))))
 
 pub false_answer : (v : Vocabulary) (a b c : ℕ) (s : Seq) (xs : List Sequent) (t : Bool) → xs ≡ [] →
     t ≡ list_any (λ n. is v n False 0 0) s.hypotheses → Decides t (Instance v FalseL a b c (seqs xs) s)

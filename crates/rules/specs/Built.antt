@@ -1,6 +1,6 @@
 -- A range of the table is a theory: the answers of the code decide its instances, and it is sound and regular.
 use Rattle.std.specs.Prelude.{◌≡◌, ℕ, ◌-◌, ◌≤◌, false, List, length, Decides, ◌≢◌, slice_index}
-use Rattle.std.proofs.Common.{sym, ◌∙◌, subst, arith}
+use Rattle.std.proofs.Common.{sym, ◌∙◌, ap, arith}
 use Rattle.std.proofs.lemmas.Bool.{false≢true, true≢false, cond_both, cond-false}
 use Rattle.logic.specs.Formulas.{Vocabulary}
 use Rattle.logic.specs.Meanings.{Sequent as Seq}
@@ -12,21 +12,20 @@ use Rattle.calculus.specs.Model.{seqs}
 use Rattle.calculus.specs.Theories.{Sound, Regular}
 use Rattle.calculus.specs.declared.sequent.Sequent.{Sequent}
 use Rattle.calculus.specs.declared.step.Step.{Step}
-use Rattle.logic.specs.Numbers.{number}
-use Rattle.rules.specs.Tables.{arities, arity}
+use Rattle.rules.specs.Tables.{arities}
 use Rattle.rules.specs.Theories.{built, within}
 use Rattle.rules.specs.Answering.{other_count}
-use Rattle.rules.specs.TablesLemmas.{few, one_number}
+use Rattle.rules.specs.TablesLemmas.{few}
 
 module _ (low high : ℕ) (v : Vocabulary) (x : Step) (s : Seq) (xs : List Sequent) where
   abbrev Judged : Type 0
   Judged = (built low high).instance v x s (seqs xs)
 
-  -- where the rule that has the number takes another number of premises
-  pub count_answer : (r : Rule) → number r ≡ x.rule → (length xs ≢ arity r) → Decides false Judged
-  count_answer r k f = (
+  -- where the step has another number of premises than its rule takes
+  pub count_answer : (length xs ≢ slice_index arities (x.rule - 1)) → Decides false Judged
+  count_answer f = (
     λ e. absurd (false≢true e),
-    λ (_, d). absurd (other_count v r x.a x.b x.c s xs f (subst (λ (m : Rule). Instance v m x.a x.b x.c (seqs xs) s) (one_number d.0 r (d.1 ∙ sym k)) d.2)),
+    λ (k, d). absurd (other_count v d.0 x.a x.b x.c s xs (λ n. f (n ∙ ap (λ (m : ℕ). slice_index arities (m - 1)) d.1)) d.2),
   )
 
 pub built_sound : (low high : ℕ) → Sound (built low high)

@@ -42,8 +42,12 @@ impl<const LOW: u16, const HIGH: u16> Theory for RuleRange<LOW, HIGH> {
 
     ghost regular = { λ t. built_regular LOW HIGH };
 
-    fn premises(&self, rule: u16) -> Option<u8> {
-        Self::rule(rule).map(premise_count)
+    fn knows(&self, rule: u16) -> bool {
+        Self::rule(rule).is_some()
+    }
+
+    fn premises(&self, rule: u16) -> u8 {
+        Self::rule(rule).map_or(0, premise_count)
     }
 
     fn is_instance(

@@ -1,7 +1,9 @@
 // A script as it is run, line by line, and how it is closed.
-ghost use Rattle.std.specs.Prelude.{◌≡◌, length, IfOk, OnErr, OnOk};
+ghost use Rattle.std.specs.Prelude.{◌≡◌, true, length, All, IfOk, OnErr, OnOk};
 ghost use Rattle.std.specs.List.{slice_get};
+ghost use Rattle.book.specs.Books.{WellFormedBook};
 ghost use Rattle.commands.specs.Commands.{without_ending, request};
+ghost use Rattle.script.specs.Closing.{all_granted};
 ghost use Rattle.script.specs.Sessions.{start, Replies, done, used, Passed, Tried, Concludes, held_reply, hold_call_reply, appended, closed, closed_at, next_line, Did, Follows};
 
 use crate::ending::close;
@@ -30,6 +32,16 @@ impl Session {
             lines: 0,
             understood: true,
         }
+    }
+
+    // Every book is well formed, and each hold in hand was granted by one of them, so the answer is always yes; the other clauses are
+    // what a caller gets.
+    pub fn is_well_formed(&self) -> bool
+        ensures answer { result ≡ true }
+        ensures books { All WellFormedBook self.now.books }
+        ensures granted { all_granted (length self.now.books) self.now.holds ≡ true }
+    {
+        self.books.iter().all(|b| b.is_well_formed())
     }
 
     // Whether every line so far was understood.

@@ -11,7 +11,7 @@ abbrev pub in_support : ℕ → Entry → Bool
 in_support r x = slice_index_or x.support r false
 
 abbrev pub with_state : Entry → State → Entry
-with_state x s = record { origin = x.origin; predicate = x.predicate; state = s; citations = x.citations; support = x.support }
+with_state x s = record { origin = x.origin; predicate = x.predicate; state = s; count = x.count; citations = x.citations; support = x.support }
 
 -- x is a standing conclusion whose support has the rule r
 abbrev pub falls_with : ℕ → Entry → Bool

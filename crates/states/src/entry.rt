@@ -3,7 +3,6 @@ ghost use Rattle.std.specs.Prelude.{◌≡◌, Some};
 ghost use Rattle.states.specs.Support.{facts};
 ghost use Rattle.states.specs.Texts.{origin_text, state_text, facts_text};
 
-use arrayvec::ArrayVec;
 use std::fmt;
 
 // A given rule, or what a derivation concluded.
@@ -30,14 +29,15 @@ pub enum Event {
     Loss,
 }
 
-// `citations` are the entries that it cites, and `support` marks the given rules in its support. All entries have one
-// size, since no call on a book allocates.
-#[derive(Clone, Drop)]
+// The first `count` of `citations` are the entries that it cites; `support` marks the given rules in its support. All entries have
+// one size, since no call on a book allocates. An array with a count, since no vector is `Copy`, as an entry is.
+#[derive(Clone, Copy)]
 pub struct Entry {
     pub origin: Origin,
     pub predicate: u16,
     pub state: State,
-    pub citations: ArrayVec<u16, 16>,
+    pub count: u16,
+    pub citations: [u16; 16],
     pub support: [bool; 512],
 }
 

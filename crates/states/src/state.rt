@@ -75,12 +75,21 @@ impl Entry {
         self.state = self.state.next(event, self.origin);
     }
 
+    // Its state once the rule r is lost.
+    pub fn state_without(&self, r: usize) -> State
+        ensures { result ≡ (lose r self.now).state }
+    {
+        if self.rests_on(r) {
+            self.state.next(Event::Loss, self.origin)
+        } else {
+            self.state
+        }
+    }
+
     // The loss of the rule r.
     pub fn lose(&mut self, r: usize)
         ensures { self.new ≡ lose r self.old }
     {
-        if self.rests_on(r) {
-            self.undergo(Event::Loss);
-        }
+        self.state = self.state_without(r);
     }
 }

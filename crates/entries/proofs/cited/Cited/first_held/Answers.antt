@@ -8,4 +8,4 @@ pub returns : goal.returns
 returns c =
     let x = c.args.self.now in
     let m : c.map.result ≡ c.position.result = search rules in
-    m ∙ position_from_yields_List (support_held x.entries.now) _ _ c.position.result c.position.ensures.ran (YieldsList-from_slice x.citations.items cc) (λ x b q k. search rules)
+    m ∙ position_from_yields_List (support_held x.entries.now) _ _ c.position.result c.position.ensures.ran (YieldsList-from_slice x.citations.now cc) (λ x b q k. search rules)

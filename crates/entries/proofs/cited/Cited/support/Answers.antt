@@ -8,6 +8,6 @@ pub returns : goal.returns
 unfolding row
 returns c =
     let x = c.args.self.now in
-    let set = joined x.entries.now x.citations.items in
+    let set = joined x.entries.now x.citations.now in
     let filled = c.from_fn.ensures.items in
     fill_by_all set c.from_fn.result 512 false filled.long (λ k l. made_at _ _ set (λ r y q called. search rules) c.from_fn.result 0 512 filled.each k false (omega arith) l)
