@@ -1,3 +1,4 @@
 pub mod Citing
 pub mod Marking
 pub mod Placing
+pub mod Holding

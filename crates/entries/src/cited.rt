@@ -1,6 +1,8 @@
 // What is asked of the citations of a conclusion, and the conclusion.
 ghost use Rattle.std.specs.Prelude.{◌≡◌, ℕ, ◌<◌, ◌≤◌, None, Some, length, map, position, IfOk, IfErr};
+ghost use Rattle.std.specs.List.{list_any};
 ghost use Rattle.states.specs.declared.refusal.Refusal.TheVariants.{UnknownCitation};
+ghost use Rattle.states.specs.States.{is_held};
 ghost use Rattle.entries.specs.Scans.{mem, subset};
 ghost use Rattle.entries.specs.Lists.{at};
 ghost use Rattle.entries.specs.Concluding.{disorder, Known, does_not_stand, support_held, predicates, same_set, joined, row, padded, conclusion};
@@ -67,10 +69,20 @@ impl<'a> Cited<'a> {
             .any(|(r, rule)| x.rests_on(r) && rule.state.is_held())
     }
 
+    // Whether any entry is held: where none is, one pass over the entries is enough, in place of one for each citation.
+    fn has_held(&self) -> bool
+        ensures { result ≡ list_any (λ x. is_held x.state) self.now.entries.now }
+    {
+        self.entries.iter().any(|x| x.state.is_held())
+    }
+
     // The first citation with a held rule in its support.
     pub(crate) fn first_held(&self) -> Option<u16>
         ensures { result ≡ position (support_held self.now.entries.now) self.now.citations.now }
     {
+        if !self.has_held() {
+            return None;
+        }
         self.citations
             .iter()
             .position(|c| self.is_support_held(*c))
